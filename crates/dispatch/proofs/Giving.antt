@@ -1,6 +1,6 @@
 -- What a worker shows, by its parts.
 use Rattle.std.proofs.Common.{◌≡◌, ◌≢◌, ℕ, Bool, true, false, List, [], ◌∷◌, ◌++◌, Option, Some, None, refl, sym, ap, subst, ◌∙◌, append-nil, arith, cond, nat_eq, inl, inr, ◌+◌, ◌-◌, ◌^◌, length, length-append}
-use Rattle.std.specs.Prelude.{MatchBool, MatchOption, All, fold, option_map, is_some, IfSome, not, min, Result, Ok, Err, OnOk, OnErr}
+use Rattle.std.specs.Prelude.{MatchBool, MatchOption, All, fold, option_map, is_some, not, min, Result, Ok, Err, OnOk, OnErr}
 use Rattle.atomic_table.specs.Seated.{TableId}
 use Rattle.std.proofs.lemmas.Bool.{cases_eq, false≢true}
 use Rattle.std.proofs.lemmas.Bool.Decides.{nat_tests}
@@ -12,11 +12,10 @@ use Rattle.model.specs.declared.item.Item.{Item}
 use Rattle.model.specs.declared.item.Item.TheVariants.{Change, Touch, BackTo, Last}
 use Rattle.tokens.specs.Half.{Name, Half}
 use Rattle.model.specs.Beginning.{Begins}
-use Rattle.tokens.specs.Lists.{OpenList, open_list}
 use Rattle.ring.specs.Ends.{Taking}
 use Rattle.world.specs.World.{Opened}
-use Rattle.engine.specs.declared.events.Event.{Event}
 use Rattle.engine.specs.Events.{opened_by}
+use Rattle.parted_store.specs.Lent.{OpenTicket}
 use Rattle.worker.specs.declared.outbox.OutboxEvent.{OutboxEvent}
 use Rattle.worker.specs.declared.outbox.OutboxEvent.TheVariants.{Begun, Given as WasGiven}
 use Rattle.worker.specs.Outbox.{given_after, given_since}
@@ -29,7 +28,7 @@ use Rattle.dispatch.proofs.Numbers.{same_apart}
 
 -- ---- which transaction
 
-pub going_xid : (xid : ℕ) (events : List OutboxEvent) (taker : Option (Taking Item)) (ticket : Option (OpenList Event)) (given : Given) → going xid events taker ticket ≡ Some given → given.xid ≡ xid
+pub going_xid : (xid : ℕ) (events : List OutboxEvent) (taker : Option (Taking Item)) (ticket : Option OpenTicket) (given : Given) → going xid events taker ticket ≡ Some given → given.xid ≡ xid
 going_xid xid events None ticket given e = let x : Some (record { xid = xid; items = own_items (given_since events) }) ≡ Some given = e in cc
 going_xid xid events (Some t) None given e = absurd cc
 going_xid xid events (Some t) (Some k) given e = let x : Some (record { xid = xid; items = own_items (given_before events) }) ≡ Some given = e in cc
@@ -51,7 +50,7 @@ same_number : (a b : Own) → Some a ≡ Some b → a.xid ≡ b.xid
 same_number a b e = let both : a ≡ b = cc in ap (λ (o : Own). o.xid) both
 
 -- the leader's own is this one, or isn't
-pub is_it : (t : Standing) (ticket : OpenList Event) (xid : ℕ) → t.begun ≡ Some (own_by ticket) → MatchBool (nat_eq ticket.number xid) (IsOwn t xid) (¬ IsOwn t xid)
+pub is_it : (t : Standing) (ticket : OpenTicket) (xid : ℕ) → t.begun ≡ Some (own_by ticket) → MatchBool (nat_eq ticket.number xid) (IsOwn t xid) (¬ IsOwn t xid)
 is_it t ticket xid e =
     elim (cases_eq ticket.number xid) [
       | inl same ↦
@@ -141,7 +140,7 @@ did_all done acked given same own e =
 
 -- ---- a worker, by its parts
 
-module _ (n xid : ℕ) (events : List OutboxEvent) (taker : Option (Taking Item)) (ticket : Option (OpenList Event)) (collected : Collected) (now : HandleModel)
+module _ (n xid : ℕ) (events : List OutboxEvent) (taker : Option (Taking Item)) (ticket : Option OpenTicket) (collected : Collected) (now : HandleModel)
     (view : handle_model n xid events taker ticket collected ≡ now) where
   goes : going xid events taker ticket ≡ now.goes
   goes = ap (λ (l : HandleModel). l.goes) view
@@ -156,7 +155,7 @@ module _ (n xid : ℕ) (events : List OutboxEvent) (taker : Option (Taking Item)
   pub free_here : is_some taker ≡ true → (r : Bool) → is_some ticket ≡ not r → MatchBool r (IsIdle now) ((given : Given) × (now.goes ≡ Some given))
   free_here here r is = by_parts taker ticket refl refl here r is
     where
-      by_parts : (a : Option (Taking Item)) (b : Option (OpenList Event)) → taker ≡ a → ticket ≡ b → is_some a ≡ true → (r : Bool) → is_some b ≡ not r → MatchBool r (IsIdle now) ((given : Given) × (now.goes ≡ Some given))
+      by_parts : (a : Option (Taking Item)) (b : Option OpenTicket) → taker ≡ a → ticket ≡ b → is_some a ≡ true → (r : Bool) → is_some b ≡ not r → MatchBool r (IsIdle now) ((given : Given) × (now.goes ≡ Some given))
       by_parts None b ea eb here r is = absurd (false≢true here)
       by_parts (Some t) None ea eb here true is =
           (sym goes ∙ ap (λ x. going xid events x ticket) ea ∙ ap (going xid events (Some t)) eb, sym back ∙ ap (option_map done_by) eb)
@@ -175,11 +174,11 @@ module _ (n xid : ℕ) (events : List OutboxEvent) (taker : Option (Taking Item)
       by_parts (Some t) ea false is not_so = absurd (false≢true is)
 
   -- a worker has its transaction, or that came back, or none goes by it
-  pub whose : (its_ring : TableId) (its_name tickets : Name) (token : Half OutboxEvent) → IsHandle its_ring its_name tickets xid token taker ticket collected
+  pub whose : (its_ring : TableId) (its_name : Name) (token : Half OutboxEvent) → IsHandle its_ring its_name xid token taker ticket collected
       → (r : Bool) → is_some taker ≡ not r → MatchBool r ((given : Given) × (now.goes ≡ Some given) × (now.back ≡ None)) (IsHome now)
-  whose its_ring its_name tickets token worker = by_parts taker ticket refl refl worker.end
+  whose its_ring its_name token worker = by_parts taker ticket refl refl worker.end
     where
-      by_parts : (a : Option (Taking Item)) (b : Option (OpenList Event)) → taker ≡ a → ticket ≡ b → MatchOption a (ticket ≡ None) (λ t. (t.ring ≡ its_ring) × (t.acked ≡ []) × (given_since token.list ≡ []))
+      by_parts : (a : Option (Taking Item)) (b : Option OpenTicket) → taker ≡ a → ticket ≡ b → MatchOption a (ticket ≡ None) (λ t. (t.ring ≡ its_ring) × (t.acked ≡ []) × (given_since token.list ≡ []))
           → (r : Bool) → is_some a ≡ not r → MatchBool r ((given : Given) × (now.goes ≡ Some given) × (now.back ≡ None)) (IsHome now)
       by_parts None b ea eb end true is =
           (record { xid = xid; items = own_items (given_since events) }, sym goes ∙ ap (λ x. going xid events x ticket) ea, sym back ∙ ap (option_map done_by) end)
@@ -196,7 +195,7 @@ module _ (n xid : ℕ) (events : List OutboxEvent) (taker : Option (Taking Item)
   pub no_taker : (given : Given) → now.goes ≡ Some given → now.back ≡ None → taker ≡ None
   no_taker given gone none = by_parts taker ticket refl refl
     where
-      by_parts : (a : Option (Taking Item)) (b : Option (OpenList Event)) → taker ≡ a → ticket ≡ b → taker ≡ None
+      by_parts : (a : Option (Taking Item)) (b : Option OpenTicket) → taker ≡ a → ticket ≡ b → taker ≡ None
       by_parts None b ea eb = ea
       by_parts (Some t) None ea eb =
           let e : None ≡ Some given = sym (ap (λ x. going xid events x ticket) ea ∙ ap (going xid events (Some t)) eb) ∙ goes ∙ gone in absurd cc
@@ -204,44 +203,43 @@ module _ (n xid : ℕ) (events : List OutboxEvent) (taker : Option (Taking Item)
           let e : Some (done_by k) ≡ None = sym (ap (option_map done_by) eb) ∙ back ∙ none in absurd cc
 
   -- a transaction goes by it to which nothing was given yet
-  pub opened : (its_ring : TableId) (its_name tickets : Name) (token : Half OutboxEvent) (new_xid : ℕ) (taken : Taking Item) (after : Option (Taking Item)) → token.list ≡ events
-      → taker ≡ Some taken → after ≡ None → now.back ≡ None → IsHandle its_ring its_name tickets xid token taker ticket collected
-      → IsHandle its_ring its_name tickets new_xid token after ticket collected × HasCount (going new_xid events after ticket) (new_xid, 0)
-  opened its_ring its_name tickets token new_xid taken after list here gone none is =
+  pub opened : (its_ring : TableId) (its_name : Name) (token : Half OutboxEvent) (new_xid : ℕ) (taken : Taking Item) (after : Option (Taking Item)) → token.list ≡ events
+      → taker ≡ Some taken → after ≡ None → now.back ≡ None → IsHandle its_ring its_name xid token taker ticket collected
+      → IsHandle its_ring its_name new_xid token after ticket collected × HasCount (going new_xid events after ticket) (new_xid, 0)
+  opened its_ring its_name token new_xid taken after list here gone none is =
       let eb = no_ticket ticket back in
       let since : given_since token.list ≡ [] = (subst (λ a. MatchOption a (ticket ≡ None) (λ t. (t.ring ≡ its_ring) × (t.acked ≡ []) × (given_since token.list ≡ []))) here is.end).2 in
-      subst (λ a. IsHandle its_ring its_name tickets new_xid token a ticket collected × HasCount (going new_xid events a ticket) (new_xid, 0)) (sym gone) (
+      subst (λ a. IsHandle its_ring its_name new_xid token a ticket collected × HasCount (going new_xid events a ticket) (new_xid, 0)) (sym gone) (
         record {
           name = is.name;
           end = eb;
-          back = subst (λ b. MatchOption b (Unit {0}) (IsBack tickets new_xid (own_items (given_before token.list)) collected)) (sym eb) tt;
+          back = subst (λ b. MatchOption b (Unit {0}) (IsBack new_xid (own_items (given_before token.list)) collected)) (sym eb) tt;
         },
         (refl, sym (ap (λ given. min (length (own_items given)) (2 ^ 64 - 1)) (ap given_since (sym list) ∙ since))),
       )
     where
-      no_ticket : (b : Option (OpenList Event)) → option_map done_by b ≡ now.back → b ≡ None
+      no_ticket : (b : Option OpenTicket) → option_map done_by b ≡ now.back → b ≡ None
       no_ticket None e = refl
       no_ticket (Some k) e = let some : Some (done_by k) ≡ None = e ∙ none in absurd cc
 
   -- its ticket is taken out of it
-  pub taken_out : (its_ring : TableId) (its_name tickets : Name) (token : Half OutboxEvent) → token.list ≡ events → IsHandle its_ring its_name tickets xid token taker ticket collected
-      → (result after : Option (OpenList Event)) → result ≡ ticket → after ≡ None
-      → MatchOption result ((now.back ≡ None) × (handle_model n xid events taker after collected ≡ now)) (λ k. IsTakenOut tickets now k (handle_model n xid events taker after collected))
-  taken_out its_ring its_name tickets token list is None after e none =
+  pub taken_out : (its_ring : TableId) (its_name : Name) (token : Half OutboxEvent) → token.list ≡ events → IsHandle its_ring its_name xid token taker ticket collected
+      → (result after : Option OpenTicket) → result ≡ ticket → after ≡ None
+      → MatchOption result ((now.back ≡ None) × (handle_model n xid events taker after collected ≡ now)) (λ k. IsTakenOut now k (handle_model n xid events taker after collected))
+  taken_out its_ring its_name token list is None after e none =
       (sym back ∙ ap (option_map done_by) (sym e), ap (λ b. handle_model n xid events taker b collected) (none ∙ e) ∙ view)
-  taken_out its_ring its_name tickets token list is (Some k) after e none = by_taker taker refl is.end
+  taken_out its_ring its_name token list is (Some k) after e none = by_taker taker refl is.end
     where
-      its : IsBack tickets xid (own_items (given_before token.list)) collected k
-      its = subst (λ b. MatchOption b (Unit {0}) (IsBack tickets xid (own_items (given_before token.list)) collected)) (sym e) is.back
+      its : IsBack xid (own_items (given_before token.list)) collected k
+      its = subst (λ b. MatchOption b (Unit {0}) (IsBack xid (own_items (given_before token.list)) collected)) (sym e) is.back
 
       by_taker : (a : Option (Taking Item)) → taker ≡ a → MatchOption a (ticket ≡ None) (λ t. (t.ring ≡ its_ring) × (t.acked ≡ []) × (given_since token.list ≡ []))
-          → IsTakenOut tickets now k (handle_model n xid events taker after collected)
+          → IsTakenOut now k (handle_model n xid events taker after collected)
       by_taker None ea end = let none_here : Some k ≡ None = e ∙ end in absurd cc
       by_taker (Some t) ea end = record {
         given = record { xid = xid; items = own_items (given_before events) };
         was = sym goes ∙ ap (λ x. going xid events x ticket) ea ∙ ap (going xid events (Some t)) (sym e);
         back = sym back ∙ ap (option_map done_by) (sym e);
-        name = its.name;
         number = its.number;
         doing = subst (λ l. IsDoing (done_by k) (own_items (given_before l))) list its.doing;
         is =
@@ -250,34 +248,33 @@ module _ (n xid : ℕ) (events : List OutboxEvent) (taker : Option (Taking Item)
       }
 
   -- the transaction that it holds is that of its ticket, and has done a beginning of what was given to it
-  pub held_in : (its_ring : TableId) (its_name tickets : Name) (token : Half OutboxEvent) → token.list ≡ events → IsHandle its_ring its_name tickets xid token taker ticket collected
-      → (holds_in now ≡ option_map own_by ticket) × KeepsGiven now × IfSome ticket (λ (t : OpenList Event). t.name ≡ tickets)
-  held_in its_ring its_name tickets token list worker = by_parts taker ticket refl refl worker.end worker.back
+  pub held_in : (its_ring : TableId) (its_name : Name) (token : Half OutboxEvent) → token.list ≡ events → IsHandle its_ring its_name xid token taker ticket collected
+      → (holds_in now ≡ option_map own_by ticket) × KeepsGiven now
+  held_in its_ring its_name token list worker = by_parts taker ticket refl refl worker.end worker.back
     where
       Keeps : Option Given → Option Opened → Type 0
       Keeps its_goes its_back = MatchOption its_goes (Unit {0}) (λ given. MatchOption its_back (Unit {0}) (λ done. IsDoing done given.items))
 
-      goes_is : (a : Option (Taking Item)) (b : Option (OpenList Event)) → taker ≡ a → ticket ≡ b → going xid events a b ≡ now.goes
+      goes_is : (a : Option (Taking Item)) (b : Option OpenTicket) → taker ≡ a → ticket ≡ b → going xid events a b ≡ now.goes
       goes_is a b ea eb = ap (λ x. going xid events x b) (sym ea) ∙ ap (going xid events taker) (sym eb) ∙ goes
 
-      back_is : (b : Option (OpenList Event)) → ticket ≡ b → option_map done_by b ≡ now.back
+      back_is : (b : Option OpenTicket) → ticket ≡ b → option_map done_by b ≡ now.back
       back_is b eb = ap (option_map done_by) (sym eb) ∙ back
 
-      both : (a : Option (Taking Item)) (b : Option (OpenList Event)) → taker ≡ a → ticket ≡ b → in_worker (going xid events a b) (option_map done_by b) ≡ option_map own_by b → Keeps (going xid events a b) (option_map done_by b)
-          → IfSome b (λ (t : OpenList Event). t.name ≡ tickets) → (holds_in now ≡ option_map own_by ticket) × KeepsGiven now × IfSome ticket (λ (t : OpenList Event). t.name ≡ tickets)
-      both a b ea eb holds keeps name = (
+      both : (a : Option (Taking Item)) (b : Option OpenTicket) → taker ≡ a → ticket ≡ b → in_worker (going xid events a b) (option_map done_by b) ≡ option_map own_by b → Keeps (going xid events a b) (option_map done_by b)
+          → (holds_in now ≡ option_map own_by ticket) × KeepsGiven now
+      both a b ea eb holds keeps = (
         ap (λ g. in_worker g now.back) (sym (goes_is a b ea eb)) ∙ ap (in_worker (going xid events a b)) (sym (back_is b eb)) ∙ holds ∙ ap (option_map own_by) (sym eb),
         subst (λ g. Keeps g now.back) (goes_is a b ea eb) (subst (Keeps (going xid events a b)) (back_is b eb) keeps),
-        subst (λ x. IfSome x (λ (t : OpenList Event). t.name ≡ tickets)) (sym eb) name,
       )
 
-      by_parts : (a : Option (Taking Item)) (b : Option (OpenList Event)) → taker ≡ a → ticket ≡ b → MatchOption a (ticket ≡ None) (λ t. (t.ring ≡ its_ring) × (t.acked ≡ []) × (given_since token.list ≡ []))
-          → MatchOption b (Unit {0}) (IsBack tickets xid (own_items (given_before token.list)) collected) → (holds_in now ≡ option_map own_by ticket) × KeepsGiven now × IfSome ticket (λ (t : OpenList Event). t.name ≡ tickets)
-      by_parts None None ea eb end its = both None None ea eb refl tt tt
+      by_parts : (a : Option (Taking Item)) (b : Option OpenTicket) → taker ≡ a → ticket ≡ b → MatchOption a (ticket ≡ None) (λ t. (t.ring ≡ its_ring) × (t.acked ≡ []) × (given_since token.list ≡ []))
+          → MatchOption b (Unit {0}) (IsBack xid (own_items (given_before token.list)) collected) → (holds_in now ≡ option_map own_by ticket) × KeepsGiven now
+      by_parts None None ea eb end its = both None None ea eb refl tt
       by_parts None (Some k) ea eb end its = let none : Some k ≡ None = sym eb ∙ end in absurd cc
-      by_parts (Some t) None ea eb end its = both (Some t) None ea eb refl tt tt
+      by_parts (Some t) None ea eb end its = both (Some t) None ea eb refl tt
       by_parts (Some t) (Some k) ea eb end its =
-          both (Some t) (Some k) ea eb (ap (λ n. Some (record { xid = n; done = done_by k })) (sym its.number)) (subst (λ l. IsDoing (done_by k) (own_items (given_before l))) list its.doing) its.name
+          both (Some t) (Some k) ea eb (ap (λ n. Some (record { xid = n; done = done_by k })) (sym its.number)) (subst (λ l. IsDoing (done_by k) (own_items (given_before l))) list its.doing)
 
   -- an item was given to its transaction
   pub added : (item : Item) (given : Given) → now.goes ≡ Some given → now.back ≡ None → AddsTo now item (handle_model n xid (events ++ WasGiven item ∷ []) taker ticket collected)
@@ -295,19 +292,19 @@ module _ (n xid : ℕ) (events : List OutboxEvent) (taker : Option (Taking Item)
       }
 
   -- and it is kept as it was
-  pub still_handle : (its_ring : TableId) (its_name tickets : Name) (token after : Half OutboxEvent) (given : Given) → now.goes ≡ Some given → now.back ≡ None → after.name ≡ token.name
-      → IsHandle its_ring its_name tickets xid token taker ticket collected → IsHandle its_ring its_name tickets xid after taker ticket collected
-  still_handle its_ring its_name tickets token after given gone none name is =
+  pub still_handle : (its_ring : TableId) (its_name : Name) (token after : Half OutboxEvent) (given : Given) → now.goes ≡ Some given → now.back ≡ None → after.name ≡ token.name
+      → IsHandle its_ring its_name xid token taker ticket collected → IsHandle its_ring its_name xid after taker ticket collected
+  still_handle its_ring its_name token after given gone none name is =
       let ea = no_taker given gone none in
       let eb : ticket ≡ None = subst (λ a. MatchOption a (ticket ≡ None) (λ t. (t.ring ≡ its_ring) × (t.acked ≡ []) × (given_since token.list ≡ []))) ea is.end in
       record {
         name = name ∙ is.name;
         end = subst (λ a. MatchOption a (ticket ≡ None) (λ t. (t.ring ≡ its_ring) × (t.acked ≡ []) × (given_since after.list ≡ []))) (sym ea) eb;
-        back = subst (λ b. MatchOption b (Unit {0}) (IsBack tickets xid (own_items (given_before after.list)) collected)) (sym eb) tt;
+        back = subst (λ b. MatchOption b (Unit {0}) (IsBack xid (own_items (given_before after.list)) collected)) (sym eb) tt;
       }
 
   -- its worker gave its transaction back
-  pub came_back : (taker_now : Taking Item) (k : OpenList Event) (its_collected : Collected) (given : Given) → now.goes ≡ Some given → now.back ≡ None → IsDoing (done_by k) (own_items (given_since events))
+  pub came_back : (taker_now : Taking Item) (k : OpenTicket) (its_collected : Collected) (given : Given) → now.goes ≡ Some given → now.back ≡ None → IsDoing (done_by k) (own_items (given_since events))
       → ComesBack now its_collected (handle_model n xid (events ++ Begun ∷ []) (Some taker_now) (Some k) its_collected)
   came_back taker_now k its_collected given gone none doing =
       let ea = no_taker given gone none in
@@ -326,7 +323,7 @@ module _ (n xid : ℕ) (events : List OutboxEvent) (taker : Option (Taking Item)
       }
 
   -- and the same goes by it
-  pub goes_still : (taker_now : Taking Item) (k : OpenList Event) (after : List OutboxEvent) (given : Given) → now.goes ≡ Some given → now.back ≡ None → after ≡ events ++ Begun ∷ []
+  pub goes_still : (taker_now : Taking Item) (k : OpenTicket) (after : List OutboxEvent) (given : Given) → now.goes ≡ Some given → now.back ≡ None → after ≡ events ++ Begun ∷ []
       → going xid events taker ticket ≡ going xid after (Some taker_now) (Some k)
   goes_still taker_now k after given gone none begun =
       ap (λ x. going xid events x ticket) (no_taker given gone none)
@@ -355,9 +352,9 @@ module _ (n xid : ℕ) (events : List OutboxEvent) (taker : Option (Taking Item)
       (sym (append-nil (own_items (given_since events))) ∙ sym (own_more (given_since events) Last) ∙ ap own_items (sym (since_given events Last)))
       ∙ ap (λ x. going xid (events ++ WasGiven Last ∷ []) x ticket) (sym ea)) counted
 
-  module _ (its_ring : TableId) (its_name tickets : Name) (token : Half OutboxEvent) (list : token.list ≡ events) (worker : IsHandle its_ring its_name tickets xid token taker ticket collected) where
+  module _ (its_ring : TableId) (its_name : Name) (token : Half OutboxEvent) (list : token.list ≡ events) (worker : IsHandle its_ring its_name xid token taker ticket collected) where
     -- nothing is counted once its ticket was taken out
-    pub uncounted : (k : OpenList Event) (after : Option (OpenList Event)) → ticket ≡ Some k → after ≡ None → HasCount (going xid events taker after) (xid, 2 ^ 64 - 1)
+    pub uncounted : (k : OpenTicket) (after : Option OpenTicket) → ticket ≡ Some k → after ≡ None → HasCount (going xid events taker after) (xid, 2 ^ 64 - 1)
     uncounted k after here gone = by_taker taker refl worker.end
       where
         by_taker : (a : Option (Taking Item)) → taker ≡ a → MatchOption a (ticket ≡ None) (λ t. (t.ring ≡ its_ring) × (t.acked ≡ []) × (given_since token.list ≡ []))
@@ -367,13 +364,13 @@ module _ (n xid : ℕ) (events : List OutboxEvent) (taker : Option (Taking Item)
             subst (λ (goes : Option Given). HasCount goes (xid, 2 ^ 64 - 1)) (sym (ap (λ x. going xid events x after) ea ∙ ap (going xid events (Some t)) gone)) refl
 
     -- and it is kept so
-    pub emptied : (k : OpenList Event) (after : Option (OpenList Event)) → ticket ≡ Some k → after ≡ None
-        → IsHandle its_ring its_name tickets xid token taker after collected × HasCount (going xid events taker after) (xid, 2 ^ 64 - 1)
+    pub emptied : (k : OpenTicket) (after : Option OpenTicket) → ticket ≡ Some k → after ≡ None
+        → IsHandle its_ring its_name xid token taker after collected × HasCount (going xid events taker after) (xid, 2 ^ 64 - 1)
     emptied k after here gone = (
       record {
         name = worker.name;
         end = by_taker taker worker.end;
-        back = subst (λ b. MatchOption b (Unit {0}) (IsBack tickets xid (own_items (given_before token.list)) collected)) (sym gone) tt;
+        back = subst (λ b. MatchOption b (Unit {0}) (IsBack xid (own_items (given_before token.list)) collected)) (sym gone) tt;
       },
       uncounted k after here gone,
     )
@@ -384,13 +381,13 @@ module _ (n xid : ℕ) (events : List OutboxEvent) (taker : Option (Taking Item)
         by_taker (Some t) end = end
 
     -- whose ticket is taken out, and who was said to have done all, has
-    pub has_all : collected ≡ WasAll → (result : Option (OpenList Event)) (after : HandleModel) → MatchOption result ((now.back ≡ None) × (after ≡ now)) (λ k. IsTakenOut tickets now k after)
-        → MatchOption result (after ≡ now) (λ k. IsTakenOut tickets now k after × HasAll now k)
+    pub has_all : collected ≡ WasAll → (result : Option OpenTicket) (after : HandleModel) → MatchOption result ((now.back ≡ None) × (after ≡ now)) (λ k. IsTakenOut now k after)
+        → MatchOption result (after ≡ now) (λ k. IsTakenOut now k after × HasAll now k)
     has_all all None after out = out.1
     has_all all (Some k) after out = (out, by_parts taker ticket refl refl worker.end worker.back)
       where
-        by_parts : (a : Option (Taking Item)) (b : Option (OpenList Event)) → taker ≡ a → ticket ≡ b → MatchOption a (ticket ≡ None) (λ t. (t.ring ≡ its_ring) × (t.acked ≡ []) × (given_since token.list ≡ []))
-            → MatchOption b (Unit {0}) (IsBack tickets xid (own_items (given_before token.list)) collected) → HasAll now k
+        by_parts : (a : Option (Taking Item)) (b : Option OpenTicket) → taker ≡ a → ticket ≡ b → MatchOption a (ticket ≡ None) (λ t. (t.ring ≡ its_ring) × (t.acked ≡ []) × (given_since token.list ≡ []))
+            → MatchOption b (Unit {0}) (IsBack xid (own_items (given_before token.list)) collected) → HasAll now k
         by_parts a None ea eb end its = let none : None ≡ Some (done_by k) = ap (option_map done_by) (sym eb) ∙ back ∙ out.back in absurd cc
         by_parts None (Some j) ea eb end its = let none : Some j ≡ None = sym eb ∙ end in absurd cc
         by_parts (Some t) (Some j) ea eb end its =
@@ -412,10 +409,10 @@ same_name (Err e) item token after ok err = ap (λ (h : Half OutboxEvent). h.nam
 
 -- ---- a job that came back
 
-module _ (its_ring : TableId) (tickets : Name) (token : Half OutboxEvent) (taker : Taking Item) (job : Working) (ticket : OpenList Event)
-    (ticket_is : ticket ≡ open_list tickets job.xid job.events) (taker_is : taker ≡ job.taker) (step : IsInStep its_ring job) where
+module _ (its_ring : TableId) (token : Half OutboxEvent) (taker : Taking Item) (job : Working) (ticket : OpenTicket)
+    (ticket_is : (ticket.number ≡ job.xid) × (ticket.events ≡ job.events)) (taker_is : taker ≡ job.taker) (step : IsInStep its_ring job) where
   done_is : done_by ticket ≡ opened_by job.events
-  done_is = ap done_by ticket_is
+  done_is = ap opened_by ticket_is.1
 
   -- what it has done is a beginning of what was given
   pub job_doing : Begins taker.acked (given_since token.list) → MatchOption taker.taken (Unit {0}) (λ item. Begins (taker.acked ++ item ∷ []) (given_since token.list)) → IsDoing (done_by ticket) (own_items (given_since token.list))
@@ -428,7 +425,7 @@ module _ (its_ring : TableId) (tickets : Name) (token : Half OutboxEvent) (taker
   pub home_worker : (its_name : Name) (xid : ℕ) (after : Half OutboxEvent) (back_taker : Taking Item) (collected : Collected) → token.name ≡ its_name → after ≡ record token { list = token.list ++ Begun ∷ [] }
       → job.xid ≡ xid → back_taker.ring ≡ taker.ring → back_taker.acked ≡ [] → Begins taker.acked (given_since token.list)
       → MatchOption taker.taken (Unit {0}) (λ item. Begins (taker.acked ++ item ∷ []) (given_since token.list)) → (collected ≡ WasAll → given_since token.list ≡ taker.acked ++ Last ∷ [])
-      → IsHandle its_ring its_name tickets xid after (Some back_taker) (Some ticket) collected
+      → IsHandle its_ring its_name xid after (Some back_taker) (Some ticket) collected
   home_worker its_name xid after back_taker collected name begun number ring acked begins next all =
       let list : after.list ≡ token.list ++ Begun ∷ [] = ap (λ (h : Half OutboxEvent). h.list) begun in
       let given : given_before after.list ≡ given_since token.list = ap given_before list ∙ before_begun token.list in
@@ -436,8 +433,7 @@ module _ (its_ring : TableId) (tickets : Name) (token : Half OutboxEvent) (taker
         name = ap (λ (h : Half OutboxEvent). h.name) begun ∙ name;
         end = (ring ∙ ap (λ (t : Taking Item). t.ring) taker_is ∙ step.ring, acked, ap given_since list ∙ since_begun token.list);
         back = record {
-          name = ap (λ (t : OpenList Event). t.name) ticket_is;
-          number = ap (λ (t : OpenList Event). t.number) ticket_is ∙ number;
+          number = ticket_is.0 ∙ number;
           doing = subst (λ g. IsDoing (done_by ticket) (own_items g)) (sym given) (job_doing begins next);
           all = λ is.
               ap (λ (d : Opened). d.items) done_is

@@ -6,13 +6,11 @@ use Rattle.std.proofs.lemmas.List.{map-append, length-map, take-append-le, take_
 use Rattle.std.proofs.lemmas.List.Elements.{All-append, All-cons, All-nil}
 use Rattle.model.specs.declared.item.Item.{Item}
 use Rattle.model.specs.declared.item.CommitInfo.{CommitInfo}
-use Rattle.tokens.specs.Half.{Name}
-use Rattle.tokens.specs.Lists.{OpenList}
-use Rattle.engine.specs.declared.events.Event.{Event}
 use Rattle.engine.specs.declared.events.LineEvent.{LineEvent}
 use Rattle.engine.specs.declared.events.LineEvent.TheVariants.{Opened as WasOpened, Committed as WasCommitted, Aborted as WasAborted}
+use Rattle.parted_store.specs.Lent.{OpenTicket}
 use Rattle.dispatch.specs.Handle.{Given, HandleModel, own_item, done_by, IsIdle, IsHome, AddsTo, IsTakenOut, HasAll}
-use Rattle.dispatch.specs.Standing.{Standing, own_by, goes_by, standing, GoesBy, Replaces, IsHandedOut, IsGiven, CommitsGiven, IsAborted}
+use Rattle.dispatch.specs.Standing.{Standing, own_by, goes_by, standing, GoesBy, Replaces, IsBegun, IsHandedOut, IsGiven, CommitsGiven, IsAborted}
 
 -- ---- one of a list
 
@@ -54,7 +52,7 @@ same_goes ls i worker after within is same =
 
 -- ---- the worker of a place
 
-module _ (count : ℕ) (line : List LineEvent) (ls : List HandleModel) (i : ℕ) (begun : Option (OpenList Event)) (old : Standing) (view : standing count line ls begun ≡ old) (xid : ℕ) (goes : GoesBy old.workers i xid) where
+module _ (count : ℕ) (line : List LineEvent) (ls : List HandleModel) (i : ℕ) (begun : Option OpenTicket) (old : Standing) (view : standing count line ls begun ≡ old) (xid : ℕ) (goes : GoesBy old.workers i xid) where
   abbrev Here : List HandleModel → ℕ → Type 0
   Here items place = (place < length items) × ((worker : HandleModel) → worker ≡ get_or items place worker → (given : Given) × (worker.goes ≡ Some given) × (given.xid ≡ xid))
 
@@ -83,7 +81,7 @@ at_place (l ∷ ls) zero worker within is = ap goes_by (sym is)
 at_place (l ∷ ls) (suc i) worker within is = at_place ls i worker (omega (arith, within)) is
 
 -- so this transaction does
-pub found_by : (count : ℕ) (line : List LineEvent) (ls : List HandleModel) (i : ℕ) (begun : Option (OpenList Event)) (old : Standing) → standing count line ls begun ≡ old → (xid : ℕ) (worker : HandleModel) → i < length ls → worker ≡ get_or ls i worker
+pub found_by : (count : ℕ) (line : List LineEvent) (ls : List HandleModel) (i : ℕ) (begun : Option OpenTicket) (old : Standing) → standing count line ls begun ≡ old → (xid : ℕ) (worker : HandleModel) → i < length ls → worker ≡ get_or ls i worker
     → (given : Given) × (worker.goes ≡ Some given) × (given.xid ≡ xid) → GoesBy old.workers i xid
 found_by count line ls i begun old view xid worker within is (given, goes, number) =
     subst (λ (s : Standing). GoesBy s.workers i xid) view (record {
@@ -110,10 +108,24 @@ home_all old items len i len_is same reached homes =
 -- ---- what is shown
 
 -- what goes by a worker to which a transaction was just handed out
-abbrev pub fresh : OpenList Event → Option Given
+abbrev pub fresh : OpenTicket → Option Given
 fresh ticket = Some (record { xid = ticket.number; items = [] })
 
-module _ (count : ℕ) (line : List LineEvent) (ls : List HandleModel) (i : ℕ) (begun : Option (OpenList Event)) (old : Standing) (view : standing count line ls begun ≡ old)
+-- a transaction was opened, and is the leader's own
+pub begun_by : (count : ℕ) (line after_line : List LineEvent) (ls : List HandleModel) (begun : Option OpenTicket) (old : Standing) → standing count line ls begun ≡ old
+    → old.begun ≡ None → (ticket : OpenTicket) (xid : ℕ) → after_line ≡ line ++ WasOpened xid ∷ [] → ticket ≡ record { number = xid; events = []; shares = [] }
+    → IsBegun old xid (standing count after_line ls (Some ticket))
+begun_by count line after_line ls begun old view none ticket xid told ticket_is = record {
+  none = none;
+  is = λ j. record {
+    tables = ap (λ (s : Standing). s.tables) view j;
+    line = (told ∙ ap (λ (s : Standing). s.line ++ WasOpened xid ∷ []) view) j;
+    workers = ap (λ (s : Standing). s.workers) view j;
+    begun = ap (λ (t : OpenTicket). Some (own_by t)) ticket_is j;
+  };
+}
+
+module _ (count : ℕ) (line : List LineEvent) (ls : List HandleModel) (i : ℕ) (begun : Option OpenTicket) (old : Standing) (view : standing count line ls begun ≡ old)
     (worker after : HandleModel) (within : i < length ls) (worker_is : worker ≡ get_or ls i worker) where
   -- the worker turned from this into that
   turns : (new : Standing) (was is : Option Given) → new.workers ≡ map goes_by (slice_set ls i after) → worker.goes ≡ was → after.goes ≡ is → Replaces old.workers new.workers was is
@@ -156,7 +168,7 @@ module _ (count : ℕ) (line : List LineEvent) (ls : List HandleModel) (i : ℕ)
   one_given : (given other : Given) → worker.goes ≡ Some given → worker.goes ≡ Some other → other ≡ given
   one_given given other is also = let e : Some other ≡ Some given = sym also ∙ is in cc
 
-  pub aborted_by : (new : Standing) (after_line : List LineEvent) (ticket : OpenList Event) (xid : ℕ) → new ≡ standing count after_line (slice_set ls i after) begun → after_line ≡ line ++ WasAborted ticket.number ∷ []
+  pub aborted_by : (new : Standing) (after_line : List LineEvent) (ticket : OpenTicket) (xid : ℕ) → new ≡ standing count after_line (slice_set ls i after) begun → after_line ≡ line ++ WasAborted ticket.number ∷ []
       → (given : Given) × (worker.goes ≡ Some given) × (given.xid ≡ xid) → (taken : Given) → worker.goes ≡ Some taken → ticket.number ≡ taken.xid → after.goes ≡ None → IsAborted old xid new
   aborted_by new after_line ticket xid new_is told (given, is, number) taken was its_number gone =
       let same = one_given given taken is was in
@@ -167,12 +179,12 @@ module _ (count : ℕ) (line : List LineEvent) (ls : List HandleModel) (i : ℕ)
         is = only new after_line (WasAborted xid ∷ []) new_is (told ∙ ap (λ n. line ++ WasAborted n ∷ []) its);
       }
 
-  all_done : (ticket : OpenList Event) (given : Given) → worker.goes ≡ Some given → HasAll worker ticket → (done_by ticket).items ≡ given.items
+  all_done : (ticket : OpenTicket) (given : Given) → worker.goes ≡ Some given → HasAll worker ticket → (done_by ticket).items ≡ given.items
   all_done ticket given is all = subst (λ g. MatchOption g ⊥ (λ (x : Given). (done_by ticket).items ≡ x.items)) is all
 
-  pub committed_by : (new : Standing) (after_line : List LineEvent) (tickets : Name) (ticket : OpenList Event) (xid : ℕ) (info : CommitInfo) → new ≡ standing count after_line (slice_set ls i after) begun
-      → after_line ≡ line ++ WasCommitted ticket.number (done_by ticket).items info ∷ [] → (given : Given) × (worker.goes ≡ Some given) × (given.xid ≡ xid) → IsTakenOut tickets worker ticket after × HasAll worker ticket → CommitsGiven old xid info new
-  committed_by new after_line tickets ticket xid info new_is told (given, is, number) (out, all) =
+  pub committed_by : (new : Standing) (after_line : List LineEvent) (ticket : OpenTicket) (xid : ℕ) (info : CommitInfo) → new ≡ standing count after_line (slice_set ls i after) begun
+      → after_line ≡ line ++ WasCommitted ticket.number (done_by ticket).items info ∷ [] → (given : Given) × (worker.goes ≡ Some given) × (given.xid ≡ xid) → IsTakenOut worker ticket after × HasAll worker ticket → CommitsGiven old xid info new
+  committed_by new after_line ticket xid info new_is told (given, is, number) (out, all) =
       let same = one_given given out.given is out.was in
       let its : ticket.number ≡ xid = out.number ∙ ap (λ (g : Given). g.xid) same ∙ number in
       record {

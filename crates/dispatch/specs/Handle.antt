@@ -17,11 +17,10 @@ use Rattle.atomic_table.specs.Seated.{TableId}
 use Rattle.model.specs.declared.item.Item.{Item}
 use Rattle.model.specs.declared.item.Item.TheVariants.{Change, Touch, BackTo, Last}
 use Rattle.tokens.specs.Half.{Name, Half}
-use Rattle.tokens.specs.Lists.{OpenList}
 use Rattle.ring.specs.Ends.{Taking}
 use Rattle.world.specs.World.{Opened}
-use Rattle.engine.specs.declared.events.Event.{Event}
 use Rattle.engine.specs.Events.{opened_by}
+use Rattle.parted_store.specs.Lent.{OpenTicket}
 use Rattle.worker.specs.declared.outbox.Collected.{Collected}
 use Rattle.worker.specs.declared.outbox.Collected.TheVariants.{All as WasAll, Left}
 use Rattle.worker.specs.declared.outbox.OutboxEvent.{OutboxEvent}
@@ -69,17 +68,17 @@ pub record HandleModel : Type 0 where
 
 -- The transaction that goes by a worker: a worker has it where the end of the ring isn't here, and it came back where its
 -- ticket is.
-abbrev pub going : ℕ → List OutboxEvent → Option (Taking Item) → Option (OpenList Event) → Option Given
+abbrev pub going : ℕ → List OutboxEvent → Option (Taking Item) → Option OpenTicket → Option Given
 going its_xid events None ticket = Some (record { xid = its_xid; items = own_items (given_since events) })
 going its_xid events (Some taker) None = None
 going its_xid events (Some taker) (Some ticket) = Some (record { xid = its_xid; items = own_items (given_before events) })
 
 -- what an open transaction has done, by its ticket
-abbrev pub done_by : OpenList Event → Opened
-done_by ticket = opened_by ticket.list
+abbrev pub done_by : OpenTicket → Opened
+done_by ticket = opened_by ticket.events
 
 -- what a worker knows, by its parts
-abbrev pub handle_model : ℕ → ℕ → List OutboxEvent → Option (Taking Item) → Option (OpenList Event) → Collected → HandleModel
+abbrev pub handle_model : ℕ → ℕ → List OutboxEvent → Option (Taking Item) → Option OpenTicket → Collected → HandleModel
 handle_model its_number its_xid events taker ticket its_collected =
     record { number = its_number; goes = going its_xid events taker ticket; back = option_map done_by ticket; collected = its_collected }
 
@@ -95,21 +94,19 @@ pub record IsDoing (done : Opened) (work : List Item) : Type 0 where
   pub begins : done.items ++ left ≡ work
   pub wants : MatchOption done.wants (Unit {0}) (λ w. (more : List Item) × (left ≡ Change w.0 w.1 ∷ more))
 
--- It is the ticket of this transaction of the store, which does what was given to it, and has done all of it where that
--- was said.
-pub record IsBack (tickets : Name) (its_xid : ℕ) (given : List Item) (collected : Collected) (ticket : OpenList Event) : Type 0 where
-  pub name : ticket.name ≡ tickets
+-- It is the ticket of this transaction, which does what was given to it, and has done all of it where that was said.
+pub record IsBack (its_xid : ℕ) (given : List Item) (collected : Collected) (ticket : OpenTicket) : Type 0 where
   pub number : ticket.number ≡ its_xid
   pub doing : IsDoing (done_by ticket) given
   pub all : collected ≡ WasAll → (done_by ticket).items ≡ given
 
 -- Its token has this name. Where the end of the ring is here it is that of this ring, nothing of it was acknowledged,
 -- and nothing was given since; a ticket is here with it alone, and is that of its transaction.
-pub record IsHandle (its_ring : TableId) (its_name tickets : Name) (its_xid : ℕ) (token : Half OutboxEvent) (taker : Option (Taking Item)) (ticket : Option (OpenList Event)) (collected : Collected)
+pub record IsHandle (its_ring : TableId) (its_name : Name) (its_xid : ℕ) (token : Half OutboxEvent) (taker : Option (Taking Item)) (ticket : Option OpenTicket) (collected : Collected)
     : Type 0 where
   pub name : token.name ≡ its_name
   pub end : MatchOption taker (ticket ≡ None) (λ t. (t.ring ≡ its_ring) × (t.acked ≡ []) × (given_since token.list ≡ []))
-  pub back : MatchOption ticket (Unit {0}) (IsBack tickets its_xid (own_items (given_before token.list)) collected)
+  pub back : MatchOption ticket (Unit {0}) (IsBack its_xid (own_items (given_before token.list)) collected)
 
 -- No transaction goes by it.
 abbrev pub IsIdle : HandleModel → Type 0
@@ -153,15 +150,14 @@ pub record ComesBack (old : HandleModel) (its_collected : Collected) (new : Hand
   pub doing : IsDoing done given.items
 
 -- Its transaction, which had come back, was taken out of it: this is the ticket.
-pub record IsTakenOut (tickets : Name) (old : HandleModel) (ticket : OpenList Event) (new : HandleModel) : Type 0 where
+pub record IsTakenOut (old : HandleModel) (ticket : OpenTicket) (new : HandleModel) : Type 0 where
   pub given : Given
   pub was : old.goes ≡ Some given
   pub back : old.back ≡ Some (done_by ticket)
-  pub name : ticket.name ≡ tickets
   pub number : ticket.number ≡ given.xid
   pub doing : IsDoing (done_by ticket) given.items
   pub is : new ≡ record old { goes = None; back = None }
 
 -- It had done all that was given to it.
-abbrev pub HasAll : HandleModel → OpenList Event → Type 0
+abbrev pub HasAll : HandleModel → OpenTicket → Type 0
 HasAll l ticket = MatchOption l.goes ⊥ (λ given. (done_by ticket).items ≡ given.items)

@@ -1,7 +1,6 @@
 -- What a leader's open transactions show, and what each call makes of it.
 --     Own, nothing      a transaction that the leader applies itself; what one has done that was just opened
 --     Standing, own_by, goes_by, standing      what they show of the store, of the workers and of the leader's own; that of their parts
---     HasNames      what their type keeps
 --     in_worker, holds_in, KeepsGiven      the transaction whose ticket a worker has; what its type keeps of that
 --     items_of, items_by, own_of      what is there of a transaction: by a worker, by all workers, with the leader
 --     GoesBy, IsOwn, IsOurs      a transaction goes by the worker of this place; the leader applies it itself; either
@@ -20,12 +19,10 @@ use Rattle.model.specs.declared.change.Change as change_type
 use Rattle.model.specs.declared.item.Item.{Item}
 use Rattle.model.specs.declared.item.Item.TheVariants.{Change}
 use Rattle.model.specs.declared.item.CommitInfo.{CommitInfo}
-use Rattle.tokens.specs.Half.{Name, Half}
-use Rattle.tokens.specs.Lists.{OpenList}
 use Rattle.world.specs.World.{Opened, is_xid}
-use Rattle.engine.specs.declared.events.Event.{Event}
 use Rattle.engine.specs.declared.events.LineEvent.{LineEvent}
 use Rattle.engine.specs.declared.events.LineEvent.TheVariants.{Opened as WasOpened, Committed as WasCommitted, Aborted as WasAborted}
+use Rattle.parted_store.specs.Lent.{OpenTicket}
 use Rattle.live_tables.specs.declared.answers.EngineFault.{EngineFault}
 use Rattle.live_tables.specs.declared.answers.EngineFault.TheVariants.{Clash as Clashed, Stopped as StoreStopped}
 use Rattle.live_tables.specs.declared.answers.Stop.{Stop}
@@ -55,7 +52,7 @@ pub record Standing : Type 0 where
   pub begun : Option Own
 
 -- one that the leader applies itself, by its ticket
-abbrev pub own_by : OpenList Event → Own
+abbrev pub own_by : OpenTicket → Own
 own_by ticket = record { xid = ticket.number; done = done_by ticket }
 
 -- what goes by a worker
@@ -63,14 +60,9 @@ abbrev pub goes_by : HandleModel → Option Given
 goes_by l = l.goes
 
 -- what they show, by their parts
-abbrev pub standing : ℕ → List LineEvent → List HandleModel → Option (OpenList Event) → Standing
+abbrev pub standing : ℕ → List LineEvent → List HandleModel → Option OpenTicket → Standing
 standing count events its_workers ticket =
     record { tables = count; line = events; workers = map goes_by its_workers; begun = option_map own_by ticket }
-
--- The line has this name, and the ticket of the transaction that was begun has the name of the store's tickets.
-pub record HasNames (its_line tickets : Name) (events : Half LineEvent) (ticket : Option (OpenList Event)) : Type 0 where
-  pub line : events.name ≡ its_line
-  pub begun : MatchOption ticket (Unit {0}) (λ t. t.name ≡ tickets)
 
 -- the transaction whose ticket a worker has, by what goes by it and what that has done
 abbrev pub in_worker : Option Given → Option Opened → Option Own

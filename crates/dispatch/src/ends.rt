@@ -36,9 +36,9 @@ pub fn end_of_fault(fault: EngineFault, stop: Option<Stop>) -> End
 }
 
 /// The end of a run that asked for what is never asked for: a session gives no more transactions a
-/// worker than there are, no item that is none of a transaction, and nothing behind a commit that
-/// failed. No clause says so, and an end of a run has no name for it, so it is told as memory that was
-/// refused, in this place alone.
+/// worker than there are, no item that is none of a transaction or of one that waits with another, and
+/// nothing behind a commit that failed. No clause says so, and an end of a run has no name for it, so
+/// it is told as memory that was refused, in this place alone.
 pub fn end_of_unasked() -> End
     ensures { result ≡ NoMemory }
 {

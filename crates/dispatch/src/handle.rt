@@ -8,11 +8,11 @@ ghost use Rattle.dispatch.specs.Standing.{items_of};
 use crate::parts::LeaderEnds;
 use crate::shared::WorkerShared;
 use crate::slot::Slot;
-use engine::{StoreNames, Ticket};
 use model::{Item, OutOfMemory, Xid};
 use ring::Taker;
 use std::marker::Model;
 use std::sync::Wait;
+use table_locks::{StoreNames, Ticket};
 use tokens::Token;
 use worker::{Collected, Job, OutboxEvent, OutboxNames, WorkItem, lock_outbox, wait_for_ever};
 use worker_threads::Mailbox;
@@ -33,7 +33,7 @@ pub struct WorkerHandle<'a, N: StoreNames, L: OutboxNames, G: Drop> {
     /// The transaction that goes by it; the last one, where none does.
     xid: Xid,
     /// Its ticket, once its worker gave it back.
-    back: Option<Ticket>,
+    back: Option<Ticket<N>>,
     /// Whether it had done all of its items then.
     collected: Collected,
     /// How many items were given to it. The last number is no count: where none goes by it, or there
@@ -48,7 +48,7 @@ impl<'a, N: StoreNames, L: OutboxNames, G: Drop> Model for WorkerHandle<'a, N, L
 
     ghost view = { λ h. handle_model h.number h.xid h.token.list h.taker h.back h.collected };
 
-    ghost invariant = { λ h. IsHandle (L.ring h.number) (L.outbox h.number) N.tickets h.xid h.token h.taker h.back h.collected
+    ghost invariant = { λ h. IsHandle (L.ring h.number) (L.outbox h.number) h.xid h.token h.taker h.back h.collected
         × HasCount (going h.xid h.token.list h.taker h.back) (h.xid, h.count) };
 }
 
@@ -113,10 +113,9 @@ impl<'a, N: StoreNames, L: OutboxNames, G: Drop> WorkerHandle<'a, N, L, G> {
 
     /// A transaction that has done nothing yet goes to the worker, as its job. Its mailbox is empty,
     /// which a lock hides.
-    pub fn start<R: Wait>(&mut self, rt: &R, ticket: Ticket)
+    pub fn start<R: Wait>(&mut self, rt: &R, ticket: Ticket<N>)
         requires free { IsIdle self.old }
-        requires belongs { ticket.name ≡ N.tickets }
-        requires first { ticket.list ≡ [] }
+        requires first { ticket.events ≡ [] }
         ensures { self.new ≡ record self.old { goes = Some (record { xid = ticket.number; items = [] }) } }
     {
         let Some(taker) = self.taker.take() else {
@@ -212,8 +211,8 @@ impl<'a, N: StoreNames, L: OutboxNames, G: Drop> WorkerHandle<'a, N, L, G> {
     }
 
     /// The ticket of its transaction, if it came back. No transaction goes by it then.
-    pub fn take_back(&mut self) -> Option<Ticket>
-        ensures { MatchOption result ((self.old.back ≡ None) × (self.new ≡ self.old)) (λ ticket. IsTakenOut N.tickets self.old ticket self.new) }
+    pub fn take_back(&mut self) -> Option<Ticket<N>>
+        ensures { MatchOption result ((self.old.back ≡ None) × (self.new ≡ self.old)) (λ ticket. IsTakenOut self.old ticket self.new) }
     {
         let ticket = self.back.take()?;
         self.count = u64::MAX;
@@ -221,8 +220,8 @@ impl<'a, N: StoreNames, L: OutboxNames, G: Drop> WorkerHandle<'a, N, L, G> {
     }
 
     /// The same, if it had done all of its items.
-    pub fn take_done(&mut self) -> Option<Ticket>
-        ensures taken { MatchOption result (self.new ≡ self.old) (λ ticket. IsTakenOut N.tickets self.old ticket self.new × HasAll self.old ticket) }
+    pub fn take_done(&mut self) -> Option<Ticket<N>>
+        ensures taken { MatchOption result (self.new ≡ self.old) (λ ticket. IsTakenOut self.old ticket self.new × HasAll self.old ticket) }
         ensures all { self.old.collected ≡ WasAll → IsSome self.old.back → IsSome result }
     {
         if self.collected != Collected::All {
@@ -239,7 +238,7 @@ impl<'a, N: StoreNames, L: OutboxNames, G: Drop> Slot<N> for WorkerHandle<'a, N,
 
     ghost keeps = { KeepsGiven };
 
-    fn into_ticket(self) -> Option<Ticket> {
+    fn into_ticket(self) -> Option<Ticket<N>> {
         let WorkerHandle { back, .. } = self;
         back
     }

@@ -20,7 +20,7 @@
 // `specs/Handle` says what a leader knows of a worker, `specs/Standing` what is there of each transaction
 // and what each call makes of it, `specs/Parts` what a worker is made of.
 //
-// It stands on `engine`'s store, on `worker`, `ring` and `tokens` for a worker, `worker_threads` for
+// It stands on `table_locks`' store, on `worker`, `ring` and `tokens` for a worker, `worker_threads` for
 // mailboxes, `origin` for the position, and `run` for the ends of a run.
 mod ends;
 mod handle;

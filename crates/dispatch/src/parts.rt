@@ -6,12 +6,12 @@ ghost use Rattle.tokens.specs.Half.{no_name};
 
 use crate::handle::WorkerHandle;
 use crate::shared::WorkerShared;
-use engine::StoreNames;
 use model::{OutOfMemory, Xid};
 use ring::{Ring, Sender, Taker};
 use std::alloc::Global;
 use std::marker::{Model, PhantomData};
 use std::sync::Mutex;
+use table_locks::StoreNames;
 use tokens::{Kept, Token, pair};
 use worker::{Gate, Job, Outbox, OutboxEvent, OutboxNames, WorkItem};
 use worker_threads::Mailbox;

@@ -5,11 +5,11 @@ ghost use Rattle.tokens.specs.Half.{no_name};
 ghost use Rattle.engine.specs.Events.{ends_in};
 ghost use Rattle.origin.specs.Commits.{commits_of};
 
-use engine::Line;
 use model::Lsn;
 use origin::{Origin, Position, Publisher};
 use std::marker::{Brand, Model, PhantomData};
 use std::sync::Wait;
+use table_locks::Line;
 use worker::OutboxNames;
 
 /// The names of what the threads of a run share beside its store: of its workers, and of the origin

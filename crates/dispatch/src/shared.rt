@@ -2,12 +2,12 @@
 ghost use Rattle.std.specs.Prelude.{◌≡◌};
 
 use crossbeam_utils::sync::EventCount;
-use engine::{SharedStore, StoreNames};
 use model::Xid;
 use std::alloc::Global;
 use std::marker::Model;
 use std::sync::atomic::{AtomicBool, Ordering};
-use std::sync::{Condvar, Mutex, Wait};
+use std::sync::{Mutex, Wait};
+use table_locks::{Store, StoreNames};
 use worker::{Ended, Gate, Job, Outbox, OutboxNames, Point, wait_for_ever, work_on};
 use worker_threads::Work;
 
@@ -15,10 +15,7 @@ use worker_threads::Work;
 #[derive(Debug, Drop)]
 pub struct Shared<N: StoreNames, L: OutboxNames, G: Drop> {
     pub alloc: Global,
-    pub store: Mutex<SharedStore<N>>,
-    /// Notified under the store's lock whenever holds change, the store is stopped, or a worker is told
-    /// to give up.
-    pub changed: Condvar,
+    pub store: Store<N>,
     /// What each worker shares, by its number.
     pub workers: Vec<WorkerShared<N, L, G>>,
     /// Wakes the leader, where it waits for anything that moves.
@@ -142,7 +139,7 @@ impl<N: StoreNames, L: OutboxNames, G: Gate + Drop> Work<Job<N, L>> for Shared<N
             next: worker.half_ring,
             lags: false,
         };
-        let ended = work_on(rt, self.alloc, &self.store, &self.changed, job, &mut waking);
+        let ended = work_on(rt, self.alloc, &self.store, job, &mut waking);
         if ended == Ended::OutOfMemory {
             self.refused.store(true, Ordering::SeqCst);
         }

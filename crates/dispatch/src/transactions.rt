@@ -2,12 +2,12 @@
 ghost use Rattle.std.specs.Prelude.{◌≡◌, ◌≢◌, ◌<◌, ◌++◌, ◌∷◌, [], None, Some, IfErr, IfOk, IfNone, IfSome, OnErr, OnOk, ◌⊎◌, All, MatchBool, MatchOption, length, map, option_map, slice_index_or};
 ghost use Rattle.model.specs.Named.{NamesTables};
 ghost use Rattle.model.specs.declared.item.Item.TheVariants.{Last, Change as ChangeItem, Touch as TouchItem};
-ghost use Rattle.tokens.specs.Lists.{open_list};
 ghost use Rattle.engine.specs.Events.{ends_in};
 ghost use Rattle.origin.specs.Commits.{commits_of};
 ghost use Rattle.model.specs.Beginning.{last_end};
 ghost use Rattle.engine.specs.declared.events.LineEvent.TheVariants.{Opened as WasOpened, Committed as WasCommitted};
 ghost use Rattle.session.specs.Answers.{IsOfTables};
+ghost use Rattle.worker.specs.Working.{IsTaken as IsNext};
 ghost use Rattle.dispatch.specs.Handle.{own_item, done_by, new_handle, IsIdle, IsHome, AreCounted};
 ghost use Rattle.dispatch.specs.Standing.{own_by, goes_by, items_by, GoesBy, IsOwn, IsOurs, with_done, with_wanted, IsUndone, Tries, IsStoreEnd, IsStopEnd, IsBegun, IsHandedOut, IsGiven, IsApplied, IsTaken, IsMet, IsCommitted, CommitsGiven, CommitsOwn, HasDoneAll, HasTried, IsAborted};
 
@@ -15,13 +15,14 @@ use crate::ends::{end_of_fault, end_of_stop, end_of_unasked};
 use crate::handle::{WorkerHandle, is_last};
 use crate::positions::{Positions, RunNames};
 use crate::shared::Shared;
-use engine::{Acted, Line, SharedStore, StoreNames, Ticket};
+use engine::{Acted, EngineFault};
 use model::{Change, CommitInfo, Item, Xid};
 use origin::Publisher;
 use run::End;
 use std::alloc::Global;
 use std::marker::Model;
-use std::sync::{MutexGuard, Wait};
+use std::sync::Wait;
+use table_locks::{Line, StoreNames, Ticket};
 use worker::{Gate, OutboxNames, WorkItem};
 
 /// The open transactions of a run, and the line of its store.
@@ -31,7 +32,7 @@ use worker::{Gate, OutboxNames, WorkItem};
 /// aborts. A clause sees how many tables the store has, what its line tells, which transaction goes by
 /// each worker with the items that were given to it, and what the leader's own has done.
 ///
-/// The position behind each commit is published, once that stands and the store's lock was let go.
+/// The position behind each commit is published, once that stands and no lock of the store is held.
 #[derive(Debug, Drop)]
 pub struct Transactions<'a, N: StoreNames, L: RunNames, R: Wait, G: Gate + Drop> {
     rt: &'a R,
@@ -42,7 +43,7 @@ pub struct Transactions<'a, N: StoreNames, L: RunNames, R: Wait, G: Gate + Drop>
     /// Of each worker how many items were given to its transaction, as the worker tells it.
     given: Vec<(Xid, u64)>,
     /// The transaction between Begin and Commit, or one that was spooled while it commits.
-    begun: Option<Ticket>,
+    begun: Option<Ticket<N>>,
     /// Tells those who watch how far the line has come.
     positions: Positions<'a, L>,
 }
@@ -51,13 +52,13 @@ impl<'a, N: StoreNames, L: RunNames, R: Wait, G: Gate + Drop> Model
     for Transactions<'a, N, L, R, G> {
     ghost use Rattle.std.specs.Prelude.{◌≡◌, length};
     ghost use Rattle.engine.specs.Events.{ends_in};
-    ghost use Rattle.dispatch.specs.Standing.{Standing, standing, HasNames};
+    ghost use Rattle.dispatch.specs.Standing.{Standing, standing};
 
     ghost Value = { Standing };
 
     ghost view = { λ t. standing (length N.schema) t.line.list t.workers.items t.begun };
 
-    ghost invariant = { λ t. HasNames N.line N.tickets t.line t.begun × (t.positions ≡ ends_in t.line.list) };
+    ghost invariant = { λ t. (t.line.name ≡ N.line) × (t.positions ≡ ends_in t.line.list) };
 }
 
 /// What a run leaves of its open transactions, once all workers have given up: the store's line, the
@@ -66,7 +67,7 @@ impl<'a, N: StoreNames, L: RunNames, R: Wait, G: Gate + Drop> Model
 #[derive(Debug, Drop)]
 pub struct Left<'a, N: StoreNames, L: OutboxNames, G: Drop> {
     pub line: Line,
-    pub begun: Option<Ticket>,
+    pub begun: Option<Ticket<N>>,
     pub workers: Vec<WorkerHandle<'a, N, L, G>>,
     pub given: Vec<(Xid, u64)>,
     pub publisher: Publisher,
@@ -104,7 +105,6 @@ impl<'a, N: StoreNames, L: RunNames, R: Wait, G: Gate + Drop> Transactions<'a, N
     pub fn into_left(self) -> Left<'a, N, L, G>
         ensures name { result.line.name ≡ N.line }
         ensures list { result.line.list ≡ self.entry.line }
-        ensures tickets { MatchOption result.begun (Unit {0}) (λ ticket. ticket.name ≡ N.tickets) }
         ensures begun { option_map own_by result.begun ≡ self.entry.begun }
         ensures workers { map goes_by result.workers.items ≡ self.entry.workers }
         ensures home { All IsHome result.workers.items }
@@ -250,32 +250,32 @@ impl<'a, N: StoreNames, L: RunNames, R: Wait, G: Gate + Drop> Transactions<'a, N
         done
     }
 
-    // Does an item.
-    fn do_item(&self, ticket: &mut Ticket, item: &Item) -> Result<(), End>
-        requires belongs { ticket.old.name ≡ N.tickets }
+    // Does an item. One of a transaction that waits with another isn't asked for.
+    fn do_item(&self, ticket: &mut Ticket<N>, item: &Item) -> Result<(), End>
         requires named { IsOfTables self.now.tables item.now }
-        ensures name { ticket.new.name ≡ ticket.old.name }
         ensures number { ticket.new.number ≡ ticket.old.number }
         ensures ok { OnOk result (done_by ticket.new ≡ with_done (done_by ticket.old) item.now) }
         ensures err { OnErr result (IsUndone (done_by ticket.old) item.now (done_by ticket.new)) }
         ensures end { IfErr result (IsStoreEnd (Some ticket.old.number)) }
     {
+        if ticket.waits() {
+            return Err(end_of_unasked());
+        }
         match item {
             Item::Change { sub, change } => self.do_change(ticket, *sub, change),
             Item::Touch(sub) => self.touch(ticket, *sub),
             Item::BackTo(sub) => {
-                self.shared.store.lock(self.rt).back_to(ticket, *sub);
+                self.shared.store.back_to(self.rt, ticket, *sub);
                 Ok(())
             }
             Item::Last => Err(end_of_unasked()),
         }
     }
 
-    // Does a change, once nobody else holds a cell of it.
-    fn do_change(&self, ticket: &mut Ticket, sub: Xid, change: &Change) -> Result<(), End>
-        requires belongs { ticket.old.name ≡ N.tickets }
+    // Does a change, once nobody else holds a cell of it. Its transaction waits with no other.
+    fn do_change(&self, ticket: &mut Ticket<N>, sub: Xid, change: &Change) -> Result<(), End>
         requires named { NamesTables self.now.tables change.now }
-        ensures name { ticket.new.name ≡ ticket.old.name }
+        requires next { IsNext (done_by ticket.old).wants (Some (ChangeItem sub change.now)) }
         ensures number { ticket.new.number ≡ ticket.old.number }
         ensures ok { OnOk result (done_by ticket.new ≡ with_done (done_by ticket.old) (ChangeItem sub change.now)) }
         ensures err { OnErr result (IsUndone (done_by ticket.old) (ChangeItem sub change.now) (done_by ticket.new)) }
@@ -298,42 +298,48 @@ impl<'a, N: StoreNames, L: RunNames, R: Wait, G: Gate + Drop> Transactions<'a, N
     }
 
     // Tries a change. Where another transaction holds a cell of it, it is not done; that ends the run
-    // if nothing more can come.
-    fn try_change(&self, ticket: &mut Ticket, sub: Xid, change: &Change) -> Result<bool, End>
-        requires belongs { ticket.old.name ≡ N.tickets }
+    // if the store was stopped, or nothing more can come.
+    fn try_change(&self, ticket: &mut Ticket<N>, sub: Xid, change: &Change) -> Result<bool, End>
         requires named { NamesTables self.now.tables change.now }
-        ensures name { ticket.new.name ≡ ticket.old.name }
+        requires next { IsNext (done_by ticket.old).wants (Some (ChangeItem sub change.now)) }
         ensures number { ticket.new.number ≡ ticket.old.number }
         ensures tries { Tries result sub change.now (done_by ticket.old) (done_by ticket.new) }
         ensures end { IfErr result (IsStoreEnd (Some ticket.old.number)) }
     {
-        let mut store = self.shared.store.lock(self.rt);
-        match store.act(self.alloc, ticket, sub, change) {
+        let store = &self.shared.store;
+        match store.act(self.rt, self.alloc, ticket, sub, change) {
             Ok(Acted::Done | Acted::Skipped) => Ok(true),
             Ok(Acted::Held(_)) => {
-                let xid = ticket.xid();
-                match store.stop_held(&self.line, xid, self.given.as_slice()) {
-                    Ok(holder) => Err(End::HeldKey { xid, holder }),
-                    Err(_) => Ok(false),
-                }
+                self.look_held(ticket.xid())?;
+                Ok(false)
             }
-            Err(fault) => Err(end_of_fault(fault, store.stop())),
+            Err(fault) => Err(end_refused(self.rt, self.shared, fault)),
+        }
+    }
+
+    // Whether the run ends while this transaction waits, or is waited for: the store was stopped, or
+    // nothing more can come.
+    fn look_held(&self, xid: Xid) -> Result<(), End>
+        ensures { IfErr result (IsStoreEnd (Some xid)) }
+    {
+        running(self.rt, self.shared)?;
+        let store = &self.shared.store;
+        match store.stop_held(self.rt, &self.line, xid, self.given.as_slice()) {
+            Ok(holder) => Err(End::HeldKey { xid, holder }),
+            Err(_) => Ok(()),
         }
     }
 
     // Does an item that names a subtransaction.
-    fn touch(&self, ticket: &mut Ticket, sub: Xid) -> Result<(), End>
-        requires { ticket.old.name ≡ N.tickets }
-        ensures name { ticket.new.name ≡ ticket.old.name }
+    fn touch(&self, ticket: &mut Ticket<N>, sub: Xid) -> Result<(), End>
         ensures number { ticket.new.number ≡ ticket.old.number }
         ensures ok { OnOk result (done_by ticket.new ≡ with_done (done_by ticket.old) (TouchItem sub)) }
         ensures err { OnErr result (done_by ticket.new ≡ done_by ticket.old) }
         ensures end { IfErr result IsStopEnd }
     {
-        let mut store = self.shared.store.lock(self.rt);
-        match store.touch(ticket, sub) {
+        match self.shared.store.touch(self.rt, ticket, sub) {
             Ok(()) => Ok(()),
-            Err(fault) => Err(end_of_fault(fault, store.stop())),
+            Err(fault) => Err(end_refused(self.rt, self.shared, fault)),
         }
     }
 
@@ -404,16 +410,15 @@ impl<'a, N: StoreNames, L: RunNames, R: Wait, G: Gate + Drop> Transactions<'a, N
         unreachable!()
     }
 
-    // Whether the run ends while this transaction is waited for.
+    // Whether the run ends while the worker of this transaction is waited for.
     fn look(&self, xid: Xid) -> Result<(), End>
         ensures { IfErr result (IsStoreEnd (Some xid)) }
     {
-        let mut store = running(self.rt, self.shared)?;
-        match store.stop_held(&self.line, xid, self.given.as_slice()) {
-            Ok(holder) => Err(End::HeldKey { xid, holder }),
-            Err(_) if self.shared.was_refused() => Err(End::OutOfMemory),
-            Err(_) => Ok(()),
+        self.look_held(xid)?;
+        if self.shared.was_refused() {
+            return Err(End::OutOfMemory);
         }
+        Ok(())
     }
 
     // Takes a worker's transaction back, if it has given it up.
@@ -433,11 +438,11 @@ impl<'a, N: StoreNames, L: RunNames, R: Wait, G: Gate + Drop> Transactions<'a, N
         ensures same { OnErr result (self.new ≡ self.old) }
         ensures err { IfErr result IsStopEnd }
     {
-        let store = running(self.rt, self.shared)?;
+        running(self.rt, self.shared)?;
         let Some(ticket) = self.workers[index].take_done() else {
             return Err(End::OutOfMemory);
         };
-        self.commit_ticket(store, ticket, info);
+        self.commit_ticket(ticket, info);
         self.note(index);
         Ok(())
     }
@@ -450,32 +455,24 @@ impl<'a, N: StoreNames, L: RunNames, R: Wait, G: Gate + Drop> Transactions<'a, N
         ensures same { OnErr result (self.new ≡ self.old) }
         ensures err { IfErr result IsStopEnd }
     {
-        let store = running(self.rt, self.shared)?;
+        running(self.rt, self.shared)?;
         let Some(ticket) = self.begun.take() else {
             unreachable!()
         };
-        self.commit_ticket(store, ticket, info);
+        self.commit_ticket(ticket, info);
         Ok(())
     }
 
-    // Commits a transaction whose ticket was taken. It publishes the position behind it, once the lock was
-    // let go.
-    fn commit_ticket(
-        &mut self,
-        mut store: MutexGuard<'_, SharedStore<N>>,
-        ticket: Ticket,
-        info: CommitInfo,
-    )
-        requires ticket { ticket.name ≡ N.tickets }
+    // Commits a transaction whose ticket was taken, also in a store that is stopped. It publishes the
+    // position behind it, once no lock of the store is held.
+    fn commit_ticket(&mut self, ticket: Ticket<N>, info: CommitInfo)
         requires rising { last_end (ends_in self.old.line) < info.end }
         ensures { self.new ≡ record self.old { line = self.old.line ++ WasCommitted ticket.number (done_by ticket).items info ∷ [] } }
     {
-        store.commit(&mut self.line, ticket, info);
-        self.shared.changed.notify_all();
-        let commits = count_commits(&*store);
-        drop(store);
+        let store = &self.shared.store;
+        let commits = store.commit(self.rt, &mut self.line, ticket, info);
         self.positions
-            .publish(self.rt, &self.line, commits, info.end);
+            .publish(self.rt, &self.line, commits as u64, info.end);
     }
 
     /// Drops a transaction that has a worker, unless the store was stopped.
@@ -501,12 +498,11 @@ impl<'a, N: StoreNames, L: RunNames, R: Wait, G: Gate + Drop> Transactions<'a, N
         let worker = &mut self.workers[index];
         doom_worker(self.rt, self.shared, worker);
         worker.bring_back(self.rt);
-        let mut store = running(self.rt, self.shared)?;
+        running(self.rt, self.shared)?;
         let Some(ticket) = worker.take_back() else {
             unreachable!()
         };
-        store.abort(&mut self.line, ticket);
-        self.shared.changed.notify_all();
+        self.shared.store.abort(self.rt, &mut self.line, ticket);
         self.note(index);
         Ok(())
     }
@@ -533,42 +529,45 @@ fn open_in<N: StoreNames, L: OutboxNames, R: Wait, G: Gate + Drop>(
     shared: &Shared<N, L, G>,
     line: &mut Line,
     xid: Xid,
-) -> Result<Ticket, End>
+) -> Result<Ticket<N>, End>
     requires { line.old.name ≡ N.line }
     ensures name { line.new.name ≡ line.old.name }
     ensures ends { ends_in line.new.list ≡ ends_in line.old.list }
     ensures ok { OnOk result (line.new.list ≡ line.old.list ++ WasOpened xid ∷ []) }
-    ensures ticket { IfOk result (λ ticket. ticket ≡ open_list N.tickets xid []) }
+    ensures ticket { IfOk result (λ ticket. ticket ≡ record { number = xid; events = []; shares = [] }) }
     ensures same { OnErr result (line.new.list ≡ line.old.list) }
     ensures err { IfErr result IsStopEnd }
 {
-    let mut store = shared.store.lock(rt);
-    match store.open(alloc, line, xid) {
+    match shared.store.open(rt, alloc, line, xid) {
         Ok(ticket) => Ok(ticket),
-        Err(fault) => Err(end_of_fault(fault, store.stop())),
+        Err(fault) => Err(end_refused(rt, shared, fault)),
     }
 }
 
-// The store under its lock, unless it was stopped.
-fn running<'a, N: StoreNames, L: OutboxNames, R: Wait, G: Gate + Drop>(
+// The end of a run in which a call on the store was refused.
+fn end_refused<N: StoreNames, L: OutboxNames, R: Wait, G: Gate + Drop>(
     rt: &R,
-    shared: &'a Shared<N, L, G>,
-) -> Result<MutexGuard<'a, SharedStore<N>>, End>
+    shared: &Shared<N, L, G>,
+    fault: EngineFault,
+) -> End
+    ensures { IsStopEnd result }
+{
+    let stop = shared.store.lock_journal(rt).stop();
+    end_of_fault(fault, stop)
+}
+
+// Whether the run goes on: the end of one whose store was stopped.
+fn running<N: StoreNames, L: OutboxNames, R: Wait, G: Gate + Drop>(
+    rt: &R,
+    shared: &Shared<N, L, G>,
+) -> Result<(), End>
     ensures { IfErr result IsStopEnd }
 {
-    let store = shared.store.lock(rt);
-    match store.stop() {
+    let stop = shared.store.lock_journal(rt).stop();
+    match stop {
         Some(stop) => Err(end_of_stop(stop)),
-        None => Ok(store),
+        None => Ok(()),
     }
-}
-
-// How many transactions were committed.
-fn count_commits<N: StoreNames>(store: &SharedStore<N>) -> u64
-    ensures { result ≡ length (ends_in store.now.line.list) }
-{
-    store.recall_invariant();
-    store.journal().len() as u64
 }
 
 // Tells a worker to give up, and wakes it if it waits for a cell.
@@ -578,8 +577,7 @@ fn doom_worker<N: StoreNames, L: OutboxNames, R: Wait, G: Gate + Drop>(
     worker: &WorkerHandle<'_, N, L, G>,
 ) {
     worker.doom(rt);
-    let _store = shared.store.lock(rt);
-    shared.changed.notify_all();
+    shared.store.tell_move(rt);
 }
 
 // Tells all workers to give up, and takes their transactions back.

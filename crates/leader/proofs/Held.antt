@@ -7,9 +7,9 @@ use Rattle.std.proofs.lemmas.List.Elements.{All-contains}
 use Rattle.model.specs.declared.change.Change as change_type
 use Rattle.model.specs.declared.item.Item.{Item}
 use Rattle.model.specs.declared.item.Item.TheVariants.{Change}
-use Rattle.model.specs.Rows.{Rows, Schema, IsValid}
+use Rattle.model.specs.Rows.{Rows, IsValid}
 use Rattle.model.specs.Effect.{ClashCause, NullKey, Unique}
-use Rattle.world.specs.World.{Opened, ByClash, World}
+use Rattle.world.specs.World.{Opened}
 use Rattle.world.specs.Steps.{IsStuck}
 use Rattle.engine.specs.declared.events.LineEvent.{LineEvent}
 use Rattle.frames.specs.declared.fault.FrameFault.TheVariants as frames
@@ -26,10 +26,11 @@ use Rattle.run_laws.specs.Leading.{Outbox, InStep, IsAgreed, AreInStep, AreCount
 use Rattle.run_laws.specs.Threads.{IsWork, IsWorldOf}
 use Rattle.run_laws.specs.ThreadedRun.{HasConflict, IsStuckBy, IsThreadedCause}
 use Rattle.run_laws.proofs.Books.{is_world, noted_conflict, stuck_by}
+use Rattle.table_locks.specs.Noted.{IsNoted}
 use Rattle.dispatch.specs.Standing.{Own}
 use Rattle.leader.specs.Threads.{KeepsToWork, HasTurn, MayEndBy}
-use Rattle.leader.specs.Decided.{IsNotedIn, end_for, EndsAsNoted, IsDecided}
-use Rattle.leader.specs.Ending.{Hand, IsNoted, HasFinished, AreInHand, AreGiven}
+use Rattle.leader.specs.Decided.{end_for, EndsAsNoted, IsDecided}
+use Rattle.leader.specs.Ending.{Hand, HasFinished, AreInHand, AreGiven}
 
 -- ---- outboxes that the world and the state show
 
@@ -103,25 +104,6 @@ module _ (g : Setting) (s : State) (rest : List CopyItem) (xid : ℕ) where
 
 -- ---- the world at which a run ended
 
--- it matters only what is noted, and not in which words
-module _ (schema : Schema) (w : World) (given : List (ℕ × ℕ)) (P Q : ClashCause → Type 0)
-    (to : (cause : ClashCause) → P cause → Q cause) (from : (cause : ClashCause) → Q cause → P cause) where
-  ends_by : (end : End) → EndsAsNoted P end → EndsAsNoted Q end
-  ends_by end (inl (cause, noted, is)) = inl (cause, to cause noted, is)
-  ends_by end (inr (none, is)) = inr (λ cause noted. none cause (from cause noted), is)
-
-  decided_by : (proposed end : End) → IsDecided schema w P given proposed end → IsDecided schema w Q given proposed end
-  decided_by ends.Clean end (inl runs) = inl runs
-  decided_by ends.Clean end (inr (stopped, noted)) = inr (stopped, ends_by end noted)
-  decided_by (ends.Frame fault) end is = is
-  decided_by (ends.Msg fault) end is = is
-  decided_by (ends.Session fault) end is = is
-  decided_by (ends.Rel fault) end is = is
-  decided_by (ends.Unique table key) end noted = ends_by end noted
-  decided_by (ends.NullKey table) end noted = ends_by end noted
-  decided_by (ends.HeldKey xid holder) end held = held
-  decided_by ends.OutOfMemory end is = is
-
 module _ (g : Setting) (rows : Rows) (s : State) (rest : List CopyItem) (line : List LineEvent) (hand : Hand) (given : List (ℕ × ℕ)) (proposed end : End)
     (f : HasFinished (schema_of g) rows line hand given proposed end) (are : AreInHand g s rest line hand) where
   -- a transaction in hand is open in the world
@@ -148,7 +130,7 @@ module _ (g : Setting) (rows : Rows) (s : State) (rest : List CopyItem) (line : 
 
   pub are_in_step : AreInStep g rows s rest outboxes f.world
   are_in_step = record {
-    reached = f.reached;
+    led = f.led;
     line = f.commits ∙ are.commits;
     agree = λ xid.
         agrees g s rest xid (get s.transactions xid) (get f.world.opened xid) (held_there xid) (λ o at not. sym (f.opened xid) ∙ are.streamed xid o at not);
@@ -169,31 +151,11 @@ module _ (g : Setting) (rows : Rows) (s : State) (rest : List CopyItem) (line : 
   wanted None is = let no : false ≡ true = is in cc
   wanted (Some p) is = (p.0, p.1, refl)
 
-  -- a clash of a transaction in hand is one of a transaction that is open
-  noted_in : (cause : ClashCause) → IsNoted f.world hand cause → IsNotedIn f.world cause
-  noted_in cause (h, c, among, stopped, wants) = (h.xid, h.done, c, stands h among, stopped, wants)
-
-  -- and each that is open is in hand
-  noted_there : (cause : ClashCause) → IsNotedIn f.world cause → IsNoted f.world hand cause
-  noted_there cause (xid, done, c, at, stopped, wants) =
-      let there = are.all xid (f.opened xid ∙ ap is_some at) in
-      let same : there.0.done ≡ done = same_opened there.0.done done (sym (stands there.0 there.1) ∙ ap (get f.world.opened) there.2 ∙ at) in (
-        there.0,
-        c,
-        there.1,
-        subst (λ (n : ℕ). f.world.stopped ≡ Some (ByClash n c cause)) (sym there.2) stopped,
-        subst (λ (d : Opened). IsSome d.wants) (sym same) wants,
-      )
-
-  -- the end was decided by the clash that is noted in the world
-  pub decided_in : IsDecided (schema_of g) f.world (IsNotedIn f.world) given proposed end
-  decided_in = decided_by (schema_of g) f.world given (IsNoted f.world hand) (IsNotedIn f.world) noted_in noted_there proposed end f.decided
-
   -- a clash that is noted is a conflict
-  conflicts : IsValid (schema_of g) rows → (cause : ClashCause) → IsNoted f.world hand cause → HasConflict g s rest f.world cause
-  conflicts valid cause (h, c, among, stopped, wants) =
-      let want = wanted h.done.wants wants in
-      noted_conflict g rows s rest outboxes f.world are_in_step valid h.xid c cause stopped h.done (stands h among) want.0 want.1 want.2
+  conflicts : IsValid (schema_of g) rows → (cause : ClashCause) → IsNoted f.world cause → HasConflict g s rest f.world cause
+  conflicts valid cause (xid, done, c, at, stopped, wants) =
+      let want = wanted done.wants wants in
+      noted_conflict g rows s rest outboxes f.world are_in_step valid xid c cause stopped done at want.0 want.1 want.2
 
   stuck : AreGiven g s rest given → (xid : ℕ) → HasTurn g s rest xid → (other : ℕ) → IsStuck (schema_of g) f.world given xid other
       → IsStuckBy g s rest f.world xid other
@@ -218,7 +180,7 @@ module _ (g : Setting) (rows : Rows) (line : List LineEvent) (hand : Hand) (give
   of_cause well (Unique table key) is = (well, is)
   of_cause well (NullKey table) is = (well, is)
 
-  by_noted : AreInHand g s rest line hand → HasGoneWell part → (e : End) → EndsAsNoted (IsNoted f.world hand) e → Cause e
+  by_noted : AreInHand g s rest line hand → HasGoneWell part → (e : End) → EndsAsNoted (IsNoted f.world) e → Cause e
   by_noted are well e (inl (cause, noted, is)) =
       subst Cause (sym is)
       (of_cause well cause (conflicts g rows s rest line hand given proposed end f are valid cause noted))
@@ -226,7 +188,7 @@ module _ (g : Setting) (rows : Rows) (line : List LineEvent) (hand : Hand) (give
 
   -- an item ended it
   by_item : AreInHand g s rest line hand → AreGiven g s rest given → HasGoneWell part → (first e : End) → MayEndBy g s rest first
-      → IsDecided (schema_of g) f.world (IsNoted f.world hand) given first e → Cause e
+      → IsDecided (schema_of g) f.world (IsNoted f.world) given first e → Cause e
   by_item are counts well ends.Clean e why decided = absurd why
   by_item are counts well (ends.Frame fault) e why decided = absurd why
   by_item are counts well (ends.Msg fault) e why decided = subst Cause (sym decided) (well, why)
@@ -240,14 +202,14 @@ module _ (g : Setting) (rows : Rows) (line : List LineEvent) (hand : Hand) (give
   by_item are counts well ends.OutOfMemory e why decided = subst Cause (sym decided) (inl well)
 
   -- an update that was due did
-  by_send : (first e : End) → IsSendCause part first → IsDecided (schema_of g) f.world (IsNoted f.world hand) given first e → Cause e
+  by_send : (first e : End) → IsSendCause part first → IsDecided (schema_of g) f.world (IsNoted f.world) given first e → Cause e
   by_send (ends.Frame frames.Device) e why decided = subst Cause (sym decided) (inr why)
   by_send ends.OutOfMemory e why decided = subst Cause (sym decided) (inr why)
   by_send first e why decided = absurd why
 
   -- the input did
   by_input : AreInHand g s rest line hand → (first e : End) → IsInputCause part first
-      → IsDecided (schema_of g) f.world (IsNoted f.world hand) given first e → Cause e
+      → IsDecided (schema_of g) f.world (IsNoted f.world) given first e → Cause e
   by_input are ends.Clean e why (inl (runs, so)) = subst Cause (sym so) (why, runs)
   by_input are ends.Clean e why (inr (stopped, noted)) = by_noted are why.well e noted
   by_input are (ends.Frame frames.Device) e why decided = subst Cause (sym decided) (inl why)
@@ -288,10 +250,6 @@ module _ {H : Type 0} (g : Setting) (rows : Rows) (At : H → Progress → Type 
   -- the world is one of the items that were handled
   pub is_world_of : IsWorldOf g rows over.part.progress.state over.part.rest f.world
   is_world_of = ends_in_world g rows over.part.progress.state over.part.rest line hand given proposed end f by_why.0
-
-  -- the end was decided there
-  pub is_decided : IsDecided (schema_of g) f.world (IsNotedIn f.world) given proposed end
-  is_decided = decided_in g rows over.part.progress.state over.part.rest line hand given proposed end f by_why.0
 
   -- and has a cause of the end
   pub is_cause : IsThreadedCause over.part f.world end

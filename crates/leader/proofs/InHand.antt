@@ -8,14 +8,13 @@ use Rattle.std.proofs.lemmas.Map.Views.{tells_apart}
 use Rattle.std.proofs.lemmas.Grind.{flat_map-append}
 use Rattle.std.proofs.lemmas.List.Elements.{All-contains, All-contains_itself, All-cons, All-map, Contains-append_left, Contains-append_right, Contains-append_cases, Contains-push, Contains-push_cases}
 use Rattle.model.specs.declared.item.Item.{Item}
-use Rattle.tokens.specs.Lists.{OpenList}
 use Rattle.world.specs.World.{Opened, is_xid}
-use Rattle.engine.specs.declared.events.Event.{Event}
 use Rattle.engine.specs.Events.{commits_in, is_open_in}
 use Rattle.frames.specs.declared.item.CopyItem.{CopyItem}
 use Rattle.session.specs.Sized.{item_of}
 use Rattle.session.specs.State.{Way, Worker, Spooled, Open, State, Setting}
 use Rattle.run_laws.specs.Threads.{IsWork, done_by_commit}
+use Rattle.parted_store.specs.Lent.{OpenTicket}
 use Rattle.dispatch.proofs.Among.{none_among, among_cases, among_map}
 use Rattle.dispatch.specs.Handle.{Given, HandleModel, IsDoing, IsHome, IsCounted, AreCounted}
 use Rattle.dispatch.specs.Standing.{Own, Standing, own_by, goes_by, items_of, items_by, own_of, in_worker, holds_in, KeepsGiven}
@@ -128,7 +127,7 @@ is_itself xid = unsigned_tied xid xid ∙ eq-eqb xid xid refl
 
 -- ---- all that is in hand
 
-module _ (g : Setting) (s : State) (rest : List CopyItem) (t : Standing) (begun : Option (OpenList Event)) (workers : List HandleModel) (held : AreOpenAtEnd g s rest t)
+module _ (g : Setting) (s : State) (rest : List CopyItem) (t : Standing) (begun : Option (OpenTicket)) (workers : List HandleModel) (held : AreOpenAtEnd g s rest t)
     (commits : commits_in t.line ≡ map done_by_commit s.past) (begun_is : option_map own_by begun ≡ t.begun) (workers_are : map goes_by workers ≡ t.workers)
     (home : All IsHome workers) (keeps : All KeepsGiven workers) where
   abbrev hand : Hand
@@ -157,7 +156,7 @@ module _ (g : Setting) (s : State) (rest : List CopyItem) (t : Standing) (begun 
       )
 
   -- of the leader's own
-  own_kept : (ticket : Option (OpenList Event)) → option_map own_by ticket ≡ t.begun → IfSome (option_map own_by ticket) IsKept
+  own_kept : (ticket : Option (OpenTicket)) → option_map own_by ticket ≡ t.begun → IfSome (option_map own_by ticket) IsKept
   own_kept None is = tt
   own_kept (Some ticket) is =
       let mine : own_of ticket.number t.begun ≡ Some (own_by ticket).done =
@@ -193,7 +192,7 @@ module _ (g : Setting) (s : State) (rest : List CopyItem) (t : Standing) (begun 
         there.2,
       )
 
-  in_own : (xid : ℕ) (ticket : Option (OpenList Event)) → option_map own_by ticket ≡ t.begun → (done : Opened) → own_of xid t.begun ≡ Some done
+  in_own : (xid : ℕ) (ticket : Option (OpenTicket)) → option_map own_by ticket ≡ t.begun → (done : Opened) → own_of xid t.begun ≡ Some done
       → (h : Own) × (option_map own_by ticket ≡ Some h) × (h.xid ≡ xid)
   in_own xid None is done e = absurd (none_is done (ap (own_of xid) is ∙ e))
   in_own xid (Some ticket) is done e = (

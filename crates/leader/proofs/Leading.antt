@@ -1,5 +1,5 @@
 -- What a message that was taken leaves of a run with workers.
-use Rattle.std.proofs.Common.{◌≡◌, ◌≢◌, ℕ, ◌<◌, Bool, true, false, List, [], ◌∷◌, ◌++◌, length, Option, Some, None, refl, sym, ap, subst, ◌∙◌, append-nil, ⊎_elim, inl, inr}
+use Rattle.std.proofs.Common.{◌≡◌, ◌≢◌, ℕ, ◌<◌, Bool, true, false, List, [], ◌∷◌, ◌++◌, length, length-append, Option, Some, None, refl, sym, ap, subst, ◌∙◌, append-nil, ⊎_elim, inl, inr}
 use Rattle.std.specs.Prelude.{map, All, max, Result, Ok, Err, ◌⊎◌}
 use Rattle.std.specs.Result.{IsErrAnd}
 use Rattle.std.proofs.lemmas.Bool.{cases_eq}
@@ -48,7 +48,7 @@ use Rattle.run.specs.Cause.{IsNext}
 use Rattle.run_laws.specs.Runs.{IsCommitOf, DoesAtCommit}
 use Rattle.run_laws.specs.Threads.{done_by_commit}
 use Rattle.leader.specs.declared.lead.Stream.{Stream}
-use Rattle.dispatch.specs.Standing.{Standing, IsStoreEnd, IsStopEnd, IsBegun, IsHandedOut, IsTaken, IsMet, IsCommitted, HasTried, IsAborted}
+use Rattle.dispatch.specs.Standing.{Standing, Replaces, IsStoreEnd, IsStopEnd, IsBegun, IsHandedOut, IsTaken, IsMet, IsCommitted, HasTried, IsAborted}
 use Rattle.leader.specs.Threads.{Numbered, numbered, numbered_past, Led, led, AreNamed, AreAssigned, HasCommitted, Represents, HasLedTo, LeadTakes, AreOpenAtEnd, HasTurn, MayEndBy, HasStopped, Stops}
 use Rattle.leader.proofs.Serving.{Committing, begun_agreed, handed_out_agreed, spooled_agreed, given_agreed, applied_agreed, kept_agreed, aborted_agreed, dropped_agreed, worker_commit, direct_commit, spooled_commit, unopened, all_held, met_held, tried_held}
 use Rattle.run.specs.Commits.{commit_ends}
@@ -224,6 +224,7 @@ pub record IsSameLed (a b : Led) : Type 0 where
   pub line : commits_in b.standing.line ≡ commits_in a.standing.line
   pub position : b.position ≡ a.position
   pub written : b.written ≡ a.written
+  pub places : length b.standing.workers ≡ length a.standing.workers
 
 pub same_commits : (a b : Led) (s : State) → IsSameLed a b → HasCommitted a s → HasCommitted b s
 same_commits a b s same has = record {
@@ -251,6 +252,7 @@ led_on g rows a b p payload m t at admits on same agreed session =
       committed = kept_commits b p.state t on.past (same_commits a b p.state same at.committed);
       reached = on.position ∙ at.reached ∙ ap (λ (past : List Committed). last_end (commit_ends past)) (sym on.past);
       seen = same.written ∙ at.seen ∙ ap (max p.seen) (sym on.position);
+      places = same.places ∙ at.places;
     })
 
 -- so it does by a step that commits nothing
@@ -261,20 +263,21 @@ led_by_step g rows a b p payload step at t none same agreed =
     (keeps_on g p.state t.state t.told step at.named t.tells t.within t.says none) same agreed t.represents
 
 -- the session and what is open are otherwise, and neither tables nor commits
-pub same_but_open : (s : Stream) (v : Session) (old new : Standing) → new.tables ≡ old.tables → commits_in new.line ≡ commits_in old.line → IsSameLed (led s old) (led (record s { session = v }) new)
-same_but_open s v old new tables line = record { catalog = refl; tables = tables; line = line; position = refl; written = refl }
+pub same_but_open : (s : Stream) (v : Session) (old new : Standing) → new.tables ≡ old.tables → commits_in new.line ≡ commits_in old.line → length new.workers ≡ length old.workers
+    → IsSameLed (led s old) (led (record s { session = v }) new)
+same_but_open s v old new tables line places = record { catalog = refl; tables = tables; line = line; position = refl; written = refl; places = places }
 
 -- whatever the session admits by this step
 abbrev pub Admitting : Stream → Session → List ℕ → Step → Type 0
 Admitting stream v payload step = (g : Setting) (h : State) → g.catalog ≡ stream.catalog.now → SessionRepresents g stream.session h → AdmitsPayload g v h payload step
 
 -- a step that commits nothing was taken
-pub step_taken : (stream : Stream) (v : Session) (old new : Standing) (payload : List ℕ) (step is : Step) → step ≡ is → IsNoCommit is → Admitting stream v payload step → (new.tables ≡ old.tables) × (commits_in new.line ≡ commits_in old.line)
+pub step_taken : (stream : Stream) (v : Session) (old new : Standing) (payload : List ℕ) (step is : Step) → step ≡ is → IsNoCommit is → Admitting stream v payload step → (new.tables ≡ old.tables) × (commits_in new.line ≡ commits_in old.line) × (length new.workers ≡ length old.workers)
     → Agrees old new is → (g : Setting) (rows : Rows) (p : Progress) → Represents g rows (led stream old) p → HasTaken g (Represents g rows (led (record stream { session = v }) new)) p payload false
 step_taken stream v old new payload step is e none admits same agrees g rows p at =
     let t = admits g p.state at.catalog at.session in
     led_by_step g rows (led stream old) (led (record stream { session = v }) new) p payload step at t (subst IsNoCommit (sym e) none)
-    (same_but_open stream v old new same.0 same.1) (agrees g p.state t.state t.told at.agreed t.tells t.within (subst (Says t.told) e t.says))
+    (same_but_open stream v old new same.0 same.1 same.2) (agrees g p.state t.state t.told at.agreed t.tells t.within (subst (Says t.told) e t.says))
 
 -- ---- a message that ends the run
 
@@ -316,14 +319,14 @@ stops_refused g rows a b p payload refused end at same standing is e = inl (λ f
     let rest = Wal first last payload ∷ more in
     let why = refused_end g p.state first last payload more refused is in
     subst (HasStopped g b p.state rest) (sym e)
-    (same_commits a b p.state same at.committed, why.0, all_held g p.state rest b.standing (subst (AreAssigned p.state.transactions) (sym standing) at.agreed), why.1))
+    (same_commits a b p.state same at.committed, why.0, all_held g p.state rest b.standing (subst (AreAssigned p.state.transactions) (sym standing) at.agreed), why.1, same.places ∙ at.places))
 
 -- the store refused what it asked for, and nothing is otherwise
 pub stops_before : (g : Setting) (rows : Rows) (a b : Led) (p : Progress) (payload : List ℕ) (end : End) → Represents g rows a p → IsSameLed a b → b.standing ≡ a.standing → IsStopEnd end → Stops g b p payload end
 stops_before g rows a b p payload end at same standing is = inl (λ first last more.
     let rest = Wal first last payload ∷ more in
     let why = stop_end g p.state rest end is in
-    (same_commits a b p.state same at.committed, why.0, all_held g p.state rest b.standing (subst (AreAssigned p.state.transactions) (sym standing) at.agreed), why.1))
+    (same_commits a b p.state same at.committed, why.0, all_held g p.state rest b.standing (subst (AreAssigned p.state.transactions) (sym standing) at.agreed), why.1, same.places ∙ at.places))
 
 -- so it does where a call was refused
 pub stays : (stream : Stream) (v : Session) (old new : Standing) (payload : List ℕ) (r : Result Bool End) (end : End) → IsErrAnd r (λ is. is ≡ end) → new ≡ old → IsStopEnd end → (g : Setting) (rows : Rows) (p : Progress) → Represents g rows (led stream old) p
@@ -331,7 +334,7 @@ pub stays : (stream : Stream) (v : Session) (old new : Standing) (payload : List
 stays stream v old new payload r end err same is g rows p at =
     takes_err g rows (led (record stream { session = v }) new) p payload r end err
     (stops_before g rows (led stream old) (led (record stream { session = v }) new) p payload end at
-    (same_but_open stream v old new (ap (λ (st : Standing). st.tables) same) (ap (λ (st : Standing). commits_in st.line) same)) same is)
+    (same_but_open stream v old new (ap (λ (st : Standing). st.tables) same) (ap (λ (st : Standing). commits_in st.line) same) (ap (λ (st : Standing). length st.workers) same)) same is)
 
 -- it stopped behind the message
 pub stops_behind : (g : Setting) (rows : Rows) (a b : Led) (p : Progress) (payload : List ℕ) (m : Message) (t : State) (end : End) → Represents g rows a p → Admits g p.state payload m t → KeepsOn g p.state t → IsSameLed a b → ((more : List CopyItem) → AreOpenAtEnd g t more b.standing)
@@ -344,41 +347,68 @@ stops_behind g rows a b p payload m t end at admits on same held ended =
       not_committed p.state t on.past,
       λ more.
           let why = ended more in
-          (kept_commits b p.state t on.past (same_commits a b p.state same at.committed), why.0, held more, why.1),
+          (kept_commits b p.state t on.past (same_commits a b p.state same at.committed), why.0, held more, why.1, same.places ∙ at.places),
     )
 
 -- ---- what a step leaves of the line
 
--- the same tables and commits
+-- the same tables and commits, and a place for as many workers
 abbrev pub SameCommits : Standing → Standing → Type 0
-SameCommits old new = (new.tables ≡ old.tables) × (commits_in new.line ≡ commits_in old.line)
+SameCommits old new = (new.tables ≡ old.tables) × (commits_in new.line ≡ commits_in old.line) × (length new.workers ≡ length old.workers)
+
+-- one of a list is another now, and the list as long
+as_long : {X : Type 0} (old new : List X) (was is : X) → Replaces old new was is → length new ≡ length old
+as_long old new was is at =
+    ap length at.new_is ∙ length-append at.before (is ∷ at.behind) ∙ sym (length-append at.before (was ∷ at.behind)) ∙ sym (ap length at.old_is)
 
 pub begun_line : (old new : Standing) (xid : ℕ) → IsBegun old xid new → SameCommits old new
-begun_line old new xid is = (ap (λ (st : Standing). st.tables) is.is, ap (λ (st : Standing). commits_in st.line) is.is ∙ unopened old.line xid)
+begun_line old new xid is = (ap (λ (st : Standing). st.tables) is.is, ap (λ (st : Standing). commits_in st.line) is.is ∙ unopened old.line xid, ap (λ (st : Standing). length st.workers) is.is)
 
 pub handed_out_line : (old new : Standing) (xid : ℕ) → IsHandedOut old xid new → SameCommits old new
-handed_out_line old new xid is = (ap (λ (st : Standing). st.tables) is.is, ap (λ (st : Standing). commits_in st.line) is.is ∙ unopened old.line xid)
+handed_out_line old new xid is = (ap (λ (st : Standing). st.tables) is.is, ap (λ (st : Standing). commits_in st.line) is.is ∙ unopened old.line xid, as_long _ _ _ _ is.workers)
 
 pub taken_line : (old new : Standing) (xid : ℕ) (item : Item) → IsTaken old xid item new → SameCommits old new
-taken_line old new xid item (inl is) = (ap (λ (st : Standing). st.tables) is.is, ap (λ (st : Standing). commits_in st.line) is.is)
-taken_line old new xid item (inr (done, does)) = (ap (λ (st : Standing). st.tables) does.is_own, ap (λ (st : Standing). commits_in st.line) does.is_own)
+taken_line old new xid item (inl is) = (ap (λ (st : Standing). st.tables) is.is, ap (λ (st : Standing). commits_in st.line) is.is, as_long _ _ _ _ is.workers)
+taken_line old new xid item (inr (done, does)) =
+    (ap (λ (st : Standing). st.tables) does.is_own, ap (λ (st : Standing). commits_in st.line) does.is_own, ap (λ (st : Standing). length st.workers) does.is_own)
 
 pub aborted_line : (old new : Standing) (xid : ℕ) → IsAborted old xid new → SameCommits old new
 aborted_line old new xid is = (
   ap (λ (st : Standing). st.tables) is.is,
   ap (λ (st : Standing). commits_in st.line) is.is ∙ flat_map-append past_of old.line (WasAborted xid ∷ []) ∙ append-nil (commits_in old.line),
+  as_long _ _ _ _ is.workers,
 )
+
+-- so it is behind a commit
+committed_places : (old new : Standing) (xid : ℕ) (info : CommitInfo) (items : List Item) → IsCommitted old xid info items new → length new.workers ≡ length old.workers
+committed_places old new xid info items (inl given) = as_long _ _ _ _ given.workers
+committed_places old new xid info items (inr (inl own)) = ap (λ (st : Standing). length st.workers) own.is
+committed_places old new xid info items (inr (inr spooled)) = ap (λ (st : Standing). length st.workers) spooled.is
 
 -- an item wasn't done: it wasn't given, or it is the leader's own that met another
 pub stops_item : (g : Setting) (rows : Rows) (a b : Led) (p : Progress) (payload : List ℕ) (m : Message) (t : State) (xid : ℕ) (item : Item) (end : End) → Represents g rows a p → Admits g p.state payload m t → KeepsOn g p.state t
     → GoesAlone t.phase t.transactions → b.catalog ≡ a.catalog → b.position ≡ a.position → b.written ≡ a.written → IsHandedOn p.state t xid item → IsMet a.standing xid item b.standing end → Stops g b p payload end
 stops_item g rows a b p payload m t xid item end at admits on alone catalog position written handed (inl (same, stop)) =
     stops_before g rows a b p payload end at
-    (record { catalog = catalog; tables = ap (λ (st : Standing). st.tables) same; line = ap (λ (st : Standing). commits_in st.line) same; position = position; written = written }) same stop
+    (record {
+      catalog = catalog;
+      tables = ap (λ (st : Standing). st.tables) same;
+      line = ap (λ (st : Standing). commits_in st.line) same;
+      position = position;
+      written = written;
+      places = ap (λ (st : Standing). length st.workers) same;
+    }) same stop
 stops_item g rows a b p payload m t xid item end at admits on alone catalog position written handed (inr (done, after, undone, does, store)) =
     let met = met_held g p.state t a.standing b.standing xid item handed.size handed.transaction done after at.agreed handed.way handed.gives undone does in
     stops_behind g rows a b p payload m t end at admits on
-    (record { catalog = catalog; tables = ap (λ (st : Standing). st.tables) does.is_own; line = ap (λ (st : Standing). commits_in st.line) does.is_own; position = position; written = written })
+    (record {
+      catalog = catalog;
+      tables = ap (λ (st : Standing). st.tables) does.is_own;
+      line = ap (λ (st : Standing). commits_in st.line) does.is_own;
+      position = position;
+      written = written;
+      places = ap (λ (st : Standing). length st.workers) does.is_own;
+    })
     (λ more. met.1 more) (λ more. turn_end g t more xid end (inl (alone xid met.0.0 met.0.1 met.0.2)) store)
 
 -- ---- a commit
@@ -456,6 +486,7 @@ led_to_commit g rows a b p payload m t xid info handed at admits is made catalog
       seen =
           written ∙ ap (λ n. max n info.end) at.seen ∙ ap (max (max p.seen p.state.position)) (sym reaches)
           ∙ later_max p.seen p.state.position t.position (subst (λ n. p.state.position < n) (sym is.commits.position) is.commits.later);
+      places = committed_places a.standing b.standing xid info handed made ∙ at.places;
     })
   where
     numbers_of : (past : List Committed) → map numbered_past (map done_by_commit past) ≡ map numbered past
@@ -479,6 +510,7 @@ does_at_commit g s t payload m xid info handed admits is spooled =
 record LeftAtCommit (g : Setting) (s : State) (rest : List CopyItem) (a b : Standing) : Type 0 where
   tables : b.tables ≡ a.tables
   line : commits_in b.line ≡ commits_in a.line
+  places : length b.workers ≡ length a.workers
   held : AreOpenAtEnd g s rest b
 
 left_at_commit : (g : Setting) (rows : Rows) (a b : Led) (p : Progress) (rest : List CopyItem) (t : State) (xid : ℕ) (info : CommitInfo) (handed : List Item) → Represents g rows a p → (is : IsLedCommit g p.state t xid info handed)
@@ -486,11 +518,13 @@ left_at_commit : (g : Setting) (rows : Rows) (a b : Led) (p : Progress) (rest : 
 left_at_commit g rows a b p rest t xid info handed at is does (inl same) = record {
   tables = ap (λ (st : Standing). st.tables) same;
   line = ap (λ (st : Standing). commits_in st.line) same;
+  places = ap (λ (st : Standing). length st.workers) same;
   held = all_held g p.state rest b.standing (subst (AreAssigned p.state.transactions) (sym same) at.agreed);
 }
 left_at_commit g rows a b p rest t xid info handed at is does (inr tried) = record {
   tables = ap (λ (st : Standing). st.tables) tried.is;
   line = ap (λ (st : Standing). commits_in st.line) tried.is ∙ unopened a.standing.line xid;
+  places = ap (λ (st : Standing). length st.workers) tried.is;
   held =
       tried_held g p.state rest a.standing b.standing is.transaction (record { way = is.transaction.way; items = is.commits.items }) handed at.agreed is.commits.present does
       (subst (λ n. HasTried a.standing n handed b.standing) (sym is.xid_is) tried);
@@ -504,7 +538,8 @@ stops_at_commit g rows a b p payload m t xid info handed end at admits is catalo
     let next = commits_next g p.state t payload m xid info handed admits is in
     let ended = turn_end g p.state rest xid end (inr next) store in
     let left = left_at_commit g rows a b p rest t xid info handed at is (does_at_commit g p.state t payload m xid info handed admits is) why in
-    (same_commits a b p.state (record { catalog = catalog; tables = left.tables; line = left.line; position = position; written = written }) at.committed, ended.0, left.held, ended.1))
+    let same : IsSameLed a b = record { catalog = catalog; tables = left.tables; line = left.line; position = position; written = written; places = left.places } in
+    (same_commits a b p.state same at.committed, ended.0, left.held, ended.1, left.places ∙ at.places))
 
 -- ---- an item
 
@@ -519,6 +554,7 @@ seen_led g rows l p seen w at e = record {
   committed = record { commits = at.committed.commits; done = at.committed.done; position = at.committed.position };
   reached = at.reached;
   seen = e;
+  places = at.places;
 }
 
 -- so it is once this item was seen
@@ -547,5 +583,5 @@ module _ {H : Type 0} (of : H → Led) (g : Setting) (rows : Rows) where
     progress = record { state = p.state; seen = max p.seen last; updates = p.updates ++ due_updates reply p.state (max p.seen last) };
     handles = (refl, refl, refl);
     updates = refl;
-    at = record { catalog = at.catalog; tables = at.tables; session = at.session; named = at.named; agreed = at.agreed; committed = at.committed; reached = at.reached; seen = at.seen };
+    at = record { catalog = at.catalog; tables = at.tables; session = at.session; named = at.named; agreed = at.agreed; committed = at.committed; reached = at.reached; seen = at.seen; places = at.places };
   }

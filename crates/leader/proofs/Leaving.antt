@@ -1,5 +1,6 @@
 -- What a run with workers leaves, by what ended it.
 --     over_led, nothing_read      a run is over, by what its leader knows; before a byte is read
+--     over_places      there is a place for each worker then
 --     refused_end      where want of memory was proposed, that is the end
 --     has_left      its leader has ended it
 --     shut_at_start      what is left of a store before its first call
@@ -15,11 +16,11 @@ use Rattle.model.specs.Effect.{serial}
 use Rattle.model.specs.Definition.{Definition}
 use Rattle.frames.specs.declared.fault.FrameFault.TheVariants as frames
 use Rattle.frames.specs.declared.item.CopyItem.{CopyItem}
-use Rattle.tokens.specs.Lists.{OpenList}
 use Rattle.world.specs.World.{World, Past, entry_of, starting, changes_in as changes_of}
-use Rattle.world.specs.Steps.{at_start}
+use Rattle.world.specs.Steps.{Closes}
+use Rattle.world_parts.specs.Led.{IsLed}
+use Rattle.world_parts.specs.LedLemmas.{led_start}
 use Rattle.engine.specs.declared.entry.Entry.{Entry}
-use Rattle.engine.specs.declared.events.Event.{Event}
 use Rattle.engine.specs.declared.events.LineEvent.{LineEvent}
 use Rattle.engine.specs.Engine.{entry_in}
 use Rattle.engine.specs.Events.{commits_in}
@@ -40,15 +41,18 @@ use Rattle.run.specs.Progress.{Progress, start_progress}
 use Rattle.run.specs.StreamPart.{StreamPart}
 use Rattle.run.proofs.Running.{nothing_handled}
 use Rattle.run_laws.specs.Threads.{done_by_commit}
-use Rattle.run_laws.specs.ThreadedRun.{IsThreadedCause}
+use Rattle.run_laws.specs.ThreadedRun.{IsThreadedCause, IsThreadedRun}
+use Rattle.run_laws.proofs.Closing.{closed}
 use Rattle.run_laws.proofs.Threading.{entries_done, ends_done, changes_told}
+use Rattle.parted_store.specs.Lent.{OpenTicket}
+use Rattle.table_locks.specs.Noted.{IsNoted}
 use Rattle.dispatch.specs.Handle.{HandleModel, IsHome, AreCounted}
 use Rattle.dispatch.specs.Standing.{own_by, goes_by, holds_in, KeepsGiven}
-use Rattle.leader.specs.Threads.{Led, HasCommitted, Represents, AreOpenAtEnd, MayEndBy, HasLedTo}
-use Rattle.leader.specs.Decided.{IsNotedIn, IsDecided}
-use Rattle.leader.specs.Ending.{Hand, IsNoted, HasFinished, AreInHand, AreGiven}
+use Rattle.leader.specs.Threads.{Led, HasCommitted, HasPlaces, Represents, AreOpenAtEnd, MayEndBy, HasLedTo}
+use Rattle.leader.specs.Decided.{IsDecided}
+use Rattle.leader.specs.Ending.{Hand, HasFinished, AreInHand, AreGiven}
 use Rattle.leader.specs.WithWorkers.{WasSent, LeavesLine, IsShutSo, IsRunByWorkers, RunsBy}
-use Rattle.leader.proofs.Held.{is_world_of, is_cause, is_decided}
+use Rattle.leader.proofs.Held.{is_world_of, is_cause}
 use Rattle.leader.proofs.InHand.{in_hand, are_given}
 use Rattle.leader.proofs.Serving.{all_held}
 
@@ -70,16 +74,20 @@ pub nothing_read : (g : Setting) (rows : Rows) (devices : DeviceState) (l : Led)
 nothing_read g rows devices l at = record {
   part = nothing_handled g devices;
   why = inl (record {
-    ended = (at.committed, (λ e. cc), all_held g start [] l.standing at.agreed, tt);
+    ended = (at.committed, (λ e. cc), all_held g start [] l.standing at.agreed, tt, at.places);
     well = record { read = refl; sent = (refl, Appends-nil devices.sent) };
   });
 }
+
+-- where it is over there is a place for each worker of the run
+pub over_places : (g : Setting) (rows : Rows) (old new : DeviceState) (l : Led) (end : End) → IsRunOver g (Represents g rows) (HasLedTo g rows) old new l end → HasPlaces g l
+over_places g rows old new l end over = elim over.why [ inl item ↦ item.ended.4 | inr other ↦ other.0.places ]
 
 -- where want of memory was proposed, that is the end
 pub refused_end : (schema : Schema) (rows : Rows) (line : List LineEvent) (hand : Hand) (given : List (ℕ × ℕ)) (proposed end : End)
     → HasFinished schema rows line hand given proposed end → proposed ≡ ends.OutOfMemory → end ≡ ends.OutOfMemory
 refused_end schema rows line hand given proposed end finished refused =
-    subst (λ (p : End). IsDecided schema finished.world (IsNoted finished.world hand) given p end) refused finished.decided
+    subst (λ (p : End). IsDecided schema finished.world (IsNoted finished.world) given p end) refused finished.decided
 
 -- what follows from why a run is over: its commits, what was sent, and that a clean end leaves no item
 module _ (g : Setting) (rows : Rows) (old new : DeviceState) (l : Led) (part : StreamPart g old new) where
@@ -111,7 +119,7 @@ module _ (g : Setting) (rows : Rows) (old new : DeviceState) (l : Led) (part : S
 
 -- Its open transactions were in hand, and the end was decided: the leader has ended it.
 module _ (g : Setting) (rows : Rows) (old new : DeviceState) (l : Led) (proposed end : End) (over : IsRunOver g (Represents g rows) (HasLedTo g rows) old new l proposed)
-    (valid : IsValid (schema_of g) rows) (begun : Option (OpenList Event)) (workers : List HandleModel) (given : List (ℕ × ℕ))
+    (valid : IsValid (schema_of g) rows) (begun : Option (OpenTicket)) (workers : List HandleModel) (given : List (ℕ × ℕ))
     (begun_is : option_map own_by begun ≡ l.standing.begun) (workers_are : map goes_by workers ≡ l.standing.workers) (home : All IsHome workers) (keeps : All KeepsGiven workers)
     (counted : AreCounted l.standing.workers given)
     (f : HasFinished (schema_of g) rows l.standing.line (option_map own_by begun ∷ map holds_in workers) given proposed end) where
@@ -123,7 +131,7 @@ module _ (g : Setting) (rows : Rows) (old new : DeviceState) (l : Led) (proposed
 
   ended_held : (handled : List CopyItem) (p : Progress) (rest : List CopyItem) → HasLedTo g rows l handled p rest proposed
       → AreInHand g p.state rest l.standing.line (option_map own_by begun ∷ map holds_in workers) × AreGiven g p.state rest given × MayEndBy g p.state rest proposed
-  ended_held handled p rest (committed, unclean, left, why) = (in_hand_at p.state rest left committed, are_given g p.state rest l.standing left given counted, why)
+  ended_held handled p rest (committed, unclean, left, why, places) = (in_hand_at p.state rest left committed, are_given g p.state rest l.standing left given counted, why)
 
   pub has_left : (line : List LineEvent) (position : ℕ) → commits_in line ≡ commits_in l.standing.line → position ≡ l.position → LeavesLine g rows old new line position end
   has_left line position told reached = record {
@@ -134,7 +142,7 @@ module _ (g : Setting) (rows : Rows) (old new : DeviceState) (l : Led) (proposed
     is_world = is_world_of g rows (Represents g rows) (HasLedTo g rows) old new l proposed end over valid l.standing.line (option_map own_by begun ∷ map holds_in workers) given f at_held ended_held;
     cause = is_cause g rows (Represents g rows) (HasLedTo g rows) old new l proposed end over valid l.standing.line (option_map own_by begun ∷ map holds_in workers) given f at_held ended_held;
     given = given;
-    decided = is_decided g rows (Represents g rows) (HasLedTo g rows) old new l proposed end over valid l.standing.line (option_map own_by begun ∷ map holds_in workers) given f at_held ended_held;
+    decided = f.decided;
     committed = f.committed;
     told = told ∙ sym f.commits;
     reached = reached;
@@ -165,7 +173,6 @@ shut_at_start keys rows o none tables schema =
       journal = no;
       tables = tables ∙ ap (rows_after keys rows) (sym no);
       schema = schema;
-      world = ∣ (starting rows, at_start, (refl, tables, no)) ∣₁;
     }
 
 -- ---- the run
@@ -176,6 +183,13 @@ none_left : (g : Setting) (old new : DeviceState) (part : StreamPart g old new) 
 none_left g old new part w end cause clean = (subst (IsThreadedCause part w) clean cause).0.all_handled
 
 module _ (g : Setting) (rows : Rows) where
+  -- a world closes with what is left of a run: the one at its end, once all that is open there was aborted
+  closing : (old new : DeviceState) (o : Outcome) → IsThreadedRun g rows old new o
+      → ∥ ((w : World) × IsLed (schema_of g) rows w × Closes w o.tables.rows (map entry_in o.journal.items)) ∥₁
+  closing old new o run =
+      let is = closed g rows old new o run in
+      ∣ (is.0, is.1, subst (Closes is.0 o.tables.rows) (sym is.3.entries) is.2) ∣₁
+
   -- what is left where the leader has ended a run is a run's
   pub left_run : (keys : Schema) (old new : DeviceState) (line : List LineEvent) (position : ℕ) (end : End) (o : Outcome) → LeavesLine g rows old new line position end → IsShutSo keys rows line o → keys ≡ schema_of g
       → o.position ≡ position → o.end ≡ end → IsRunByWorkers g rows old new o
@@ -187,22 +201,23 @@ module _ (g : Setting) (rows : Rows) where
       let at : o.position ≡ last_end (commit_ends over.part.progress.state.past) = reached ∙ left.reached ∙ so.0.position in
       let serial_rows : o.tables.rows ≡ serial (schema_of g) rows (changes_of (commits_in line)) =
       shut.tables ∙ ap (rows_after (schema_of g) rows) shut.journal ∙ entries_are_serial (schema_of g) rows (commits_in line) in
-      record {
-        run = record {
-          part = over.part;
-          world = left.world;
-          is_world = left.is_world;
-          cause = subst (IsThreadedCause over.part left.world) (sym ended) left.cause;
-          left = record {
-            entries = shut.journal ∙ ap (map entry_of) left.told;
-            position = at ∙ sym (ap (λ (line : List Past). last_end (map (λ (p : Past). p.info.end) line)) left.is_world.line ∙ ends_done over.part.progress.state.past);
-            tables = serial_rows ∙ ap (λ (ps : List Past). serial (schema_of g) rows (changes_of ps)) left.told ∙ sym left.committed;
-          };
-          schema = shut.schema;
+      let run : IsThreadedRun g rows old new o = record {
+        part = over.part;
+        world = left.world;
+        is_world = left.is_world;
+        cause = subst (IsThreadedCause over.part left.world) (sym ended) left.cause;
+        left = record {
+          entries = shut.journal ∙ ap (map entry_of) left.told;
+          position = at ∙ sym (ap (λ (line : List Past). last_end (map (λ (p : Past). p.info.end) line)) left.is_world.line ∙ ends_done over.part.progress.state.past);
+          tables = serial_rows ∙ ap (λ (ps : List Past). serial (schema_of g) rows (changes_of ps)) left.told ∙ sym left.committed;
         };
+        schema = shut.schema;
+      } in
+      record {
+        run = run;
         proposed = left.proposed;
         given = left.given;
-        decided = subst (IsDecided (schema_of g) left.world (IsNotedIn left.world) left.given left.proposed) (sym ended) left.decided;
+        decided = subst (IsDecided (schema_of g) left.world (IsNoted left.world) left.given left.proposed) (sym ended) left.decided;
         sent = so.1;
         clean = λ clean.
             let none = none_left g old new over.part left.world end left.cause (sym ended ∙ clean) in
@@ -210,28 +225,32 @@ module _ (g : Setting) (rows : Rows) where
         journal = journal_told (schema_of g) rows line over.part.progress.state done o.journal.items shut.journal;
         position = at;
         tables = shut.tables ∙ rows_told (schema_of g) rows line over.part.progress.state done o.journal.items shut.journal;
-        world = shut.world;
+        world = closing old new o run;
       }
 
   -- what is left where a run has ended before a byte was read is a run's
-  nothing_done : (devices : DeviceState) (o : Outcome) → IsShutSo (schema_of g) rows [] o → o.position ≡ 0 → o.end ≡ ends.OutOfMemory → IsRunByWorkers g rows devices devices o
-  nothing_done devices o shut position end = record {
-    run = record {
-      part = nothing_handled g devices;
-      world = starting rows;
-      is_world = record {
-        reached = ∣ at_start ∣₁;
-        line = refl;
-        opened = λ xid done at. let none : None ≡ Some done = sym (finite.get-empty nat_cmp xid) ∙ at in absurd cc;
-      };
-      cause = subst (IsThreadedCause (nothing_handled g devices) (starting rows)) (sym end) (inl (record { read = refl; sent = (refl, Appends-nil devices.sent) }));
-      left = record {
-        entries = shut.journal;
-        position = position;
-        tables = shut.tables ∙ ap (rows_after (schema_of g) rows) shut.journal;
-      };
-      schema = shut.schema;
+  nothing_run : (devices : DeviceState) (o : Outcome) → IsShutSo (schema_of g) rows [] o → o.position ≡ 0 → o.end ≡ ends.OutOfMemory → IsThreadedRun g rows devices devices o
+  nothing_run devices o shut position end = record {
+    part = nothing_handled g devices;
+    world = starting rows;
+    is_world = record {
+      led = led_start (schema_of g) rows;
+      line = refl;
+      opened = λ xid done at. let none : None ≡ Some done = sym (finite.get-empty nat_cmp xid) ∙ at in absurd cc;
     };
+    cause = subst (IsThreadedCause (nothing_handled g devices) (starting rows)) (sym end) (inl (record { read = refl; sent = (refl, Appends-nil devices.sent) }));
+    left = record {
+      entries = shut.journal;
+      position = position;
+      tables = shut.tables ∙ ap (rows_after (schema_of g) rows) shut.journal;
+    };
+    schema = shut.schema;
+  }
+
+  nothing_done : (devices : DeviceState) (o : Outcome) → IsShutSo (schema_of g) rows [] o → o.position ≡ 0 → o.end ≡ ends.OutOfMemory → IsRunByWorkers g rows devices devices o
+  unfolding nothing_run
+  nothing_done devices o shut position end = record {
+    run = nothing_run devices o shut position end;
     proposed = ends.OutOfMemory;
     given = [];
     decided = end;
@@ -240,7 +259,7 @@ module _ (g : Setting) (rows : Rows) where
     journal = journal_told (schema_of g) rows [] start refl o.journal.items shut.journal;
     position = position;
     tables = shut.tables ∙ rows_told (schema_of g) rows [] start refl o.journal.items shut.journal;
-    world = shut.world;
+    world = closing devices devices o (nothing_run devices o shut position end);
   }
 
   -- memory was refused before a byte was read

@@ -1,23 +1,14 @@
 -- How the end of a run with workers is decided at a world, once all of them have come back.
---     IsNotedIn      a change clashed and stopped the world, and its transaction wants one still
 --     end_for, EndsAsNoted      the end of a clash; the end by the clash that is noted, or that none is
 --     EndsAsHeld      the end by whom a transaction waits for, where nothing goes on
 --     IsDecided      the end of a run, by the clash that is noted and what was proposed
-use Rattle.std.specs.Prelude.{◌≡◌, ℕ, List, Some, None, IsSome, ◌⊎◌}
-use Rattle.std.specs.FinMap.{get}
-use Rattle.model.specs.declared.change.Change as change_type
+use Rattle.std.specs.Prelude.{◌≡◌, ℕ, List, None, IsSome, ◌⊎◌}
 use Rattle.model.specs.Rows.{Schema}
 use Rattle.model.specs.Effect.{ClashCause, NullKey, Unique}
-use Rattle.world.specs.World.{Opened, ByClash, World}
+use Rattle.world.specs.World.{World}
 use Rattle.world.specs.Steps.{IsStuck}
 use Rattle.run.specs.declared.end.End.{End}
 use Rattle.run.specs.declared.end.End.TheVariants as ends
-
--- A change of a transaction that is open in the world clashed so and stopped the world, and it wants one still.
-abbrev pub IsNotedIn : World → ClashCause → Type 0
-IsNotedIn w cause =
-    (xid : ℕ) × (done : Opened) × (c : change_type.Change) × (get w.opened xid ≡ Some done)
-    × (w.stopped ≡ Some (ByClash xid c cause)) × IsSome done.wants
 
 -- the end of a run in which a change clashed
 abbrev pub end_for : ClashCause → End

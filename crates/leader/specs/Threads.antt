@@ -3,7 +3,8 @@
 --     Led, led, after_commit      what a leader knows; that of its parts; once a transaction was committed
 --     AreNamed      items name tables of the catalog
 --     IsAssigned, AreAssigned      what is there of a transaction is what the state has; so it is of all
---     HasCommitted, Represents, RepresentsSome, RepresentsStart      what a leader knows is what a state, or a progress, has
+--     HasCommitted, HasPlaces      its commits are those of a state; it has a place for each worker
+--     Represents, RepresentsSome, RepresentsStart      what a leader knows is what a progress has
 --     KeepsToWork      what an open transaction has done is a beginning of its work
 --     IsOpenAtEnd, AreOpenAtEnd      what is there of a transaction at an end, and of all
 --     HasTurn, MayEndBy      whose turn it is; why a run may end at the next item
@@ -103,6 +104,10 @@ pub record HasCommitted (l : Led) (s : State) : Type 0 where
   pub done : commits_in l.standing.line ≡ map done_by_commit s.past
   pub position : l.position ≡ last_end (commit_ends s.past)
 
+-- It has a place for each worker of the run.
+abbrev pub HasPlaces : Setting → Led → Type 0
+HasPlaces g l = length l.standing.workers ≡ g.workers
+
 -- All that it knows is that of a progress.
 pub record Represents (g : Setting) (rows : Rows) (l : Led) (p : Progress) : Type 0 where
   pub catalog : g.catalog ≡ l.catalog
@@ -113,6 +118,7 @@ pub record Represents (g : Setting) (rows : Rows) (l : Led) (p : Progress) : Typ
   pub committed : HasCommitted l p.state
   pub reached : p.state.position ≡ last_end (commit_ends p.state.past)
   pub seen : l.written ≡ max p.seen p.state.position
+  pub places : HasPlaces g l
 
 -- It is that of some progress.
 abbrev pub RepresentsSome : Led → Type 0
@@ -165,7 +171,8 @@ MayEndBy g s rest ends.OutOfMemory = Unit {0}
 -- It stopped at this state, with these items left, and proposes this end: its commits are those of the state, and what
 -- each open transaction was given, or has done, is of its work.
 abbrev pub HasStopped : Setting → Led → State → List CopyItem → End → Type 0
-HasStopped g l s rest end = HasCommitted l s × (end ≢ ends.Clean) × AreOpenAtEnd g s rest l.standing × MayEndBy g s rest end
+HasStopped g l s rest end =
+    HasCommitted l s × (end ≢ ends.Clean) × AreOpenAtEnd g s rest l.standing × MayEndBy g s rest end × HasPlaces g l
 
 -- The message ended the run: it wasn't handled, or it was, brought no commit, and a change that it brought isn't done.
 abbrev pub Stops : Setting → Led → Progress → List ℕ → End → Type 0

@@ -1,150 +1,133 @@
 // How a run ends, once all workers have given their jobs back.
 //
-// While workers run nothing is known of what lies under the store's lock, and what was answered there
-// says nothing any more once they have come back. At the end one hand has the lock, with the ticket of
-// each transaction that is still open. So here the end is decided, and all that is open is undone, before
-// anybody else gets the lock.
-ghost use Rattle.std.specs.Prelude.{◌≡◌, ◌∷◌, ℕ, List, [], All, Some, IfSome, option_map, map};
+// While workers run nothing is known of the store as a whole: each table has a lock of its own, and what
+// was answered under one says nothing any more once it was let go. At the end one hand has the line and
+// the ticket of each transaction that is still open. So here the store is met as one world, under all
+// locks at once, and the end is decided by what is learned there. Then all that is open is undone.
+ghost use Rattle.std.specs.Prelude.{◌≡◌, ◌≤◌, ◌+◌, ◌<◌, ◌++◌, ◌∷◌, ℕ, List, [], false, All, option_map, length, map, vec_capacity, vec_len};
 ghost use Rattle.model.specs.Rows.{Schema};
 ghost use Rattle.world.specs.World.{World};
 ghost use Rattle.live_tables.specs.Answers.{TellsWhatStopped};
-ghost use Rattle.engine.specs.Events.{commits_in};
+ghost use Rattle.engine.specs.Events.{commits_in, is_open_in};
+ghost use Rattle.table_locks.specs.Noted.{IsNoted, TellsNoted, TellsHeld};
 ghost use Rattle.dispatch.specs.Standing.{own_by};
 ghost use Rattle.leader.specs.Decided.{EndsAsNoted, IsDecided};
-ghost use Rattle.leader.specs.Ending.{Hand, AreOpenIn, AreGone, IsNoted, TellsNoted, TellsHeld, IsLessOpen, HasFinished};
+ghost use Rattle.leader.specs.Ending.{held_in, waiter_in, AreGone, HasFinished};
 
 use change::Clash;
 use dispatch::Slot;
-use engine::{Line, SharedStore, Stop, StoreNames, Ticket};
 use model::Xid;
 use run::End;
+use std::sync::Wait;
+use table_locks::{Found, Line, Store, StoreNames, Ticket};
 
 /// Ends a run for which this end was proposed: what is open is undone. Answers the end. In hand are the
-/// ticket of the transaction that the leader applied itself, if there is one, and those of the workers.
-/// `given` is how many items were given to the transactions of the workers.
+/// ticket of the transaction that the leader applied itself, if there is one, and those of the workers;
+/// `tickets` has room for all of them. `given` is how many items were given to the transactions of the
+/// workers.
 ///
 /// Where the input was over, or a change clashed, it is the end of the clash that stopped the store, if
 /// one did and its transaction still wants it. A transaction that waited is asked for again, since
 /// workers still ran when it was found. Where either isn't so any more, memory was refused.
 ///
-/// Of each worker it tells what its type keeps.
-pub fn finish<N: StoreNames, S: Slot<N> + Drop>(
-    store: &mut SharedStore<N>,
+/// Of each worker it tells what its type keeps. It takes no memory.
+pub fn finish<N: StoreNames, S: Slot<N> + Drop, R: Wait>(
+    rt: &R,
+    store: &Store<N>,
     line: &mut Line,
-    own: Option<Ticket>,
+    own: Option<Ticket<N>>,
     workers: Vec<S>,
+    tickets: Vec<Ticket<N>>,
     given: &[(Xid, u64)],
     proposed: End,
 ) -> End
     requires line { line.old.name ≡ N.line }
-    requires own { IfSome own (λ t. t.name ≡ N.tickets) }
+    requires empty { tickets.items ≡ [] }
+    requires room { length workers.items < vec_capacity tickets }
     ensures finished { HasFinished N.schema N.start line.old.list (option_map own_by own ∷ map S.holds workers.items) given.now proposed result }
-    ensures gone { AreGone store.new.world (option_map own_by own ∷ map S.holds workers.items) }
+    ensures gone { AreGone line.new.list (option_map own_by own ∷ map S.holds workers.items) }
     ensures name { line.new.name ≡ N.line }
     ensures commits { commits_in line.new.list ≡ commits_in line.old.list }
     ensures keeps { All S.keeps workers.items }
 {
-    let holder = find_holder(store, line, given, proposed);
-    store.meet(line);
-    store.recall_invariant();
-    let stop = store.stop();
-    let noted = undo_all(store, line, own, workers);
-    decide(proposed, stop, holder, noted)
+    let mut tickets = take_tickets(own, workers, tickets);
+    let waiter = waiter_of(proposed);
+    let found = store.meet_all(rt, line, tickets.as_mut_slice(), waiter, given);
+    undo_all(rt, store, line, tickets);
+    decide(proposed, found)
 }
 
-// Whom the transaction waits for that the end names, if it names one: it is asked for again.
-fn find_holder<N: StoreNames>(
-    store: &mut SharedStore<N>,
-    line: &Line,
-    given: &[(Xid, u64)],
-    proposed: End,
-) -> Option<Xid>
-    requires { line.now.name ≡ N.line }
-    ensures { TellsHeld N.schema store.new.world given.now proposed result }
+// The tickets that lie in these slots, put where there is room for them.
+fn take_tickets<N: StoreNames, S: Slot<N> + Drop>(
+    own: Option<Ticket<N>>,
+    workers: Vec<S>,
+    mut tickets: Vec<Ticket<N>>,
+) -> Vec<Ticket<N>>
+    requires empty { tickets.items ≡ [] }
+    requires room { length workers.items < vec_capacity tickets }
+    ensures tickets { map own_by result.items ≡ held_in (option_map own_by own ∷ map S.holds workers.items) }
+    ensures keeps { All S.keeps workers.items }
+{
+    put(&mut tickets, own);
+    for slot in workers {
+        put(&mut tickets, slot.into_ticket());
+    }
+    tickets
+}
+
+// A ticket more, if one lies there.
+fn put<N: StoreNames>(tickets: &mut Vec<Ticket<N>>, ticket: Option<Ticket<N>>)
+    requires room { length tickets.old.items < vec_capacity tickets.old }
+    ensures tickets { map own_by tickets.new.items ≡ map own_by tickets.old.items ++ held_in (option_map own_by ticket ∷ []) }
+    ensures length { length tickets.new.items ≤ length tickets.old.items + 1 }
+    ensures capacity { vec_capacity tickets.new ≡ vec_capacity tickets.old }
+{
+    if let Some(ticket) = ticket {
+        tickets.push_reserved(ticket);
+    }
+}
+
+// The transaction that the end says waits, if it says so.
+fn waiter_of(proposed: End) -> Option<Xid>
+    ensures { result ≡ waiter_in proposed }
 {
     match proposed {
-        End::HeldKey { xid, .. } => store.stop_held(line, xid, given).ok(),
+        End::HeldKey { xid, .. } => Some(xid),
         _ => None,
     }
 }
 
-// Learns of each ticket what its transaction has done, and undoes that. Answers the clash that stopped
-// the store, if one did, and a ticket tells that its transaction still wants a change.
-fn undo_all<N: StoreNames, S: Slot<N> + Drop>(
-    store: &mut SharedStore<N>,
+// Undoes what the transactions of these tickets have done.
+fn undo_all<N: StoreNames, R: Wait>(
+    rt: &R,
+    store: &Store<N>,
     line: &mut Line,
-    own: Option<Ticket>,
-    workers: Vec<S>,
-) -> Option<Clash>
-    requires line { line.old.name ≡ N.line }
-    requires own { IfSome own (λ t. t.name ≡ N.tickets) }
-    ensures stood { AreOpenIn store.old.world (option_map own_by own ∷ map S.holds workers.items) }
-    ensures noted { TellsNoted store.old.world (option_map own_by own ∷ map S.holds workers.items) result }
-    ensures gone { AreGone store.new.world (option_map own_by own ∷ map S.holds workers.items) }
-    ensures name { line.new.name ≡ N.line }
-    ensures commits { commits_in line.new.list ≡ commits_in line.old.list }
-    ensures keeps { All S.keeps workers.items }
-{
-    let mut noted = undo(store, line, own);
-    for slot in workers {
-        noted = undo(store, line, slot.into_ticket()).or(noted);
-    }
-    noted
-}
-
-// The same of one slot.
-fn undo<N: StoreNames>(
-    store: &mut SharedStore<N>,
-    line: &mut Line,
-    slot: Option<Ticket>,
-) -> Option<Clash>
-    requires line { line.old.name ≡ N.line }
-    requires belongs { IfSome slot (λ t. t.name ≡ N.tickets) }
-    ensures stood { AreOpenIn store.old.world (option_map own_by slot ∷ []) }
-    ensures noted { TellsNoted store.old.world (option_map own_by slot ∷ []) result }
-    ensures gone { AreGone store.new.world (option_map own_by slot ∷ []) }
-    ensures world { IsLessOpen store.old.world store.new.world }
+    tickets: Vec<Ticket<N>>,
+)
+    requires { line.old.name ≡ N.line }
+    ensures gone { All (λ h. is_open_in line.new.list h.xid ≡ false) (map own_by tickets.items) }
     ensures name { line.new.name ≡ N.line }
     ensures commits { commits_in line.new.list ≡ commits_in line.old.list }
 {
-    let mut ticket = slot?;
-    let clash = clash_of(store, &mut ticket);
-    store.abort(line, ticket);
-    clash
-}
-
-// The clash that stopped the store, if this is the ticket of its transaction, which still wants a change.
-fn clash_of<N: StoreNames>(store: &mut SharedStore<N>, ticket: &mut Ticket) -> Option<Clash>
-    requires { ticket.old.name ≡ N.tickets }
-    ensures noted { TellsNoted store.old.world (Some (own_by ticket.old) ∷ []) result }
-    ensures ticket { ticket.new ≡ ticket.old }
-    ensures same { store.new ≡ store.old }
-{
-    let stop = store.stop();
-    let wants = store.wants(ticket);
-    let stop = stop?;
-    let Stop::Clash(xid, clash) = stop else {
-        return None;
-    };
-    if wants && ticket.xid() == xid {
-        return Some(clash);
+    for ticket in tickets {
+        store.abort(rt, line, ticket);
     }
-    None
 }
 
-// The end by the one that was proposed: by what stopped the store, whom a transaction waits for, and the
-// clash that is noted.
-fn decide(proposed: End, stop: Option<Stop>, holder: Option<Xid>, noted: Option<Clash>) -> End
-    ensures { (schema : Schema) (w : World) (hand : Hand) (given : List (ℕ × ℕ)) → TellsWhatStopped stop w.stopped → TellsHeld schema w given proposed holder
-        → TellsNoted w hand noted → IsDecided schema w (IsNoted w hand) given proposed result }
+// The end by the one that was proposed, and by what was found: what stopped the store, whom a
+// transaction waits for, and the clash that is noted.
+fn decide(proposed: End, found: Found) -> End
+    ensures { (schema : Schema) (w : World) (given : List (ℕ × ℕ)) → TellsWhatStopped found.stop w.stopped
+        → TellsHeld schema w given (waiter_in proposed) found.holder → TellsNoted w found.noted
+        → IsDecided schema w (IsNoted w) given proposed result }
 {
     match proposed {
-        End::Clean => match stop {
+        End::Clean => match found.stop {
             None => End::Clean,
-            Some(_) => end_of_noted(noted),
+            Some(_) => end_of_noted(found.noted),
         },
-        End::Unique { .. } | End::NullKey { .. } => end_of_noted(noted),
-        End::HeldKey { xid, .. } => match holder {
+        End::Unique { .. } | End::NullKey { .. } => end_of_noted(found.noted),
+        End::HeldKey { xid, .. } => match found.holder {
             Some(holder) => End::HeldKey { xid, holder },
             None => End::OutOfMemory,
         },
@@ -154,7 +137,7 @@ fn decide(proposed: End, stop: Option<Stop>, holder: Option<Xid>, noted: Option<
 
 // The end of the clash that is noted.
 fn end_of_noted(noted: Option<Clash>) -> End
-    ensures { (w : World) (hand : Hand) → TellsNoted w hand noted → EndsAsNoted (IsNoted w hand) result }
+    ensures { (w : World) → TellsNoted w noted → EndsAsNoted (IsNoted w) result }
 {
     match noted {
         Some(clash) => End::from(clash),

@@ -1,5 +1,5 @@
 // What each item of a stream does, where streamed transactions have workers.
-ghost use Rattle.std.specs.Prelude.{◌≡◌, ◌<◌, ◌⊎◌, [], None, length, All, OnOk, OnErr, IfErr, MatchOption, map, option_map};
+ghost use Rattle.std.specs.Prelude.{◌≡◌, ◌<◌, ◌⊎◌, [], None, length, All, OnOk, OnErr, IfErr, map, option_map};
 ghost use Rattle.model.specs.Beginning.{last_end};
 ghost use Rattle.model.specs.Rows.{Rows};
 ghost use Rattle.engine.specs.Events.{ends_in};
@@ -12,13 +12,13 @@ ghost use Rattle.run.specs.Progress.{Progress, start_progress, seen_with};
 use bytes::Bytes;
 use catalog::Catalog;
 use dispatch::{Left, RunNames, Transactions};
-use engine::StoreNames;
 use frames::{CopyItem, Lsn};
 use model::{CommitInfo, Item, Xid};
 use run::{Config, End, Handler, written_with};
 use session::{Session, Step};
 use std::alloc::Global;
 use std::sync::Wait;
+use table_locks::StoreNames;
 use worker::Gate;
 
 /// How far a leader is in its stream.
@@ -87,7 +87,6 @@ impl<'a, N: StoreNames, L: RunNames, R: Wait, G: Gate + Drop> Lead<'a, N, L, R, 
     pub fn into_left(self) -> (Left<'a, N, L, G>, Lsn)
         ensures name { result.0.line.name ≡ N.line }
         ensures list { result.0.line.list ≡ self.entry.transactions.line }
-        ensures tickets { MatchOption result.0.begun (Unit {0}) (λ ticket. ticket.name ≡ N.tickets) }
         ensures begun { option_map own_by result.0.begun ≡ self.entry.transactions.begun }
         ensures workers { map goes_by result.0.workers.items ≡ self.entry.transactions.workers }
         ensures home { All IsHome result.0.workers.items }

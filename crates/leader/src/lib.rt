@@ -21,8 +21,8 @@
 //
 // It stands on `dispatch` for which transaction is open and where, `run` for the loop over a stream and
 // the ends of a run, `run_laws` for what a run with workers is, `session` for what messages ask for,
-// `engine`'s store, `worker_threads` for threads, and `snapshot` and `origin` for those who watch. All
-// that a caller of a run needs stands here, as in `run`.
+// `table_locks` for the store, `worker_threads` for threads, and `snapshot` and `origin` for those who
+// watch. All that a caller of a run needs stands here, as in `run`.
 mod chief;
 mod ending;
 mod lead;
@@ -30,7 +30,6 @@ mod threads;
 mod watching;
 
 pub use dispatch::OpenGate;
-pub use engine::StoreNames;
 pub use origin::Position;
 pub use run::{
     ByteStr, Catalog, CatalogFault, Change, Changes, ChangesIter, Clock, Config, Devices, End,
@@ -39,6 +38,7 @@ pub use run::{
     TableId, Tables, Value, ValueRef, Walk, WriteSink, Xid, report, run_spooled, run_spooled_on,
 };
 pub use snapshot::{ReadFault, Reader, TakeEntries, Watch};
+pub use table_locks::StoreNames;
 pub use threads::{open_gates, run, run_on};
 pub use watching::NoWatch;
 pub use worker::{Gate, Point};

@@ -1,7 +1,6 @@
 // A run whose streamed transactions have workers.
 ghost use Rattle.std.specs.Prelude.{◌≡◌, ◌<◌, ◌≤◌, ℕ, All, IfOk, [], false, length, map, max, min, slice_index_or, vec_capacity};
 ghost use Rattle.model.specs.Rows.{Rows, keys_of, IsValid};
-ghost use Rattle.world.specs.World.{starting};
 ghost use Rattle.engine.specs.Events.{ends_in};
 ghost use Rattle.origin.specs.Commits.{commits_of};
 ghost use Rattle.session.specs.State.{Setting};
@@ -14,6 +13,7 @@ ghost use Rattle.run.specs.declared.end.End.TheVariants.{OutOfMemory as NoMemory
 ghost use Rattle.dispatch.specs.Handle.{IsIdle};
 ghost use Rattle.dispatch.specs.Parts.{IsFresh, HasSlots, AreNumbered, ring_of, outbox_of};
 ghost use Rattle.tokens.specs.Half.{no_name};
+ghost use Rattle.table_locks.specs.Starts.{AreNames};
 ghost use Rattle.leader.specs.Threads.{led, Represents, RepresentsStart, HasLedTo};
 ghost use Rattle.leader.specs.WithWorkers.{LeavesLine, IsRunByWorkers, RunsBy, IsShutSo};
 ghost use Rattle.leader.specs.Watching.{KnowsStart, KnowsRun};
@@ -28,7 +28,6 @@ use dispatch::{
     Left, OpenGate, Parts, Positions, RunNames, Shared, Transactions, WorkerHandle, WorkerPool,
     WorkerShared, make_handles, make_parts,
 };
-use engine::{Line, SharedStore, Store, StoreNames};
 use frames::{Lsn, Sink, Source};
 use model::{OutOfMemory, Xid};
 use origin::Publisher;
@@ -36,9 +35,10 @@ use run::{Clock, Config, Devices, End, Outcome, Tables, read_all, run_spooled_on
 use snapshot::Watch;
 use std::alloc::Global;
 use std::marker::Brand;
+use std::sync::Wait;
 use std::sync::atomic::AtomicBool;
-use std::sync::{Condvar, Mutex, Wait};
 use std::thread::Threads;
+use table_locks::{Line, Made, Store, StoreNames, Ticket};
 use worker::{Gate, Job};
 use worker_threads::{Mailbox, make_mailboxes};
 
@@ -132,25 +132,73 @@ where
         return (outcome, watchers);
     }
     start.recall_invariant();
+    // A catalog has few tables: a store can have a lock for each.
+    let _tables = catalog.tables();
     let audience = match Audience::new(alloc, watchers, config.skip) {
         Ok(audience) => audience,
         Err(watchers) => return (Outcome::unread(alloc, start), watchers),
     };
-    match Store::new(alloc, start) {
-        Ok((store, line)) => run_store::<Brand, R, S, W, C, G, V>(
-            rt, alloc, devices, catalog, store, line, config, gates, audience,
+    run_tables::<Brand, R, S, W, C, G, V>(
+        rt, alloc, devices, catalog, start, config, gates, audience,
+    )
+}
+
+// The rows with which a run starts. They are gone once its store was made of them, and their name stays.
+trait StartRows {
+    ghost use Rattle.model.specs.Rows.{Rows};
+
+    ghost start: { Rows };
+}
+
+impl StartRows for Brand {
+    ghost use Rattle.std.specs.FinMap as finite;
+
+    ghost start = { finite.empty };
+}
+
+// A run from these tables.
+fn run_tables<B, R, S, W, C, G, V>(
+    rt: &R,
+    alloc: Global,
+    devices: &mut Devices<S, W, C>,
+    catalog: &Catalog,
+    start: Tables,
+    config: &Config,
+    gates: Vec<G>,
+    audience: Audience<V>,
+) -> (Outcome, Vec<V>)
+where
+    B: StartRows,
+    R: Threads + Wait + Sync,
+    S: Source,
+    W: Sink,
+    C: Clock,
+    G: Gate + Drop + Send,
+    V: Watch + Drop + Send,
+    requires start { start.rows ≡ B.start }
+    requires few { length start.schema ≤ 1024 }
+    requires valid { IsValid start.schema start.rows }
+    requires keys { start.schema ≡ map keys_of catalog.now }
+    requires knows { All (KnowsStart V.knows start.schema start.rows audience.loader.skip) audience.watches.items }
+    ensures run { IsRunByWorkers (setting_of (length gates.items) config.now catalog.now) start.rows devices.old devices.new result.0 }
+    ensures knows { All (KnowsRun V.knows start.schema start.rows audience.loader.skip result.0) result.1.items }
+    ensures count { length result.1.items ≡ length audience.watches.items }
+{
+    match Made::of_tables(alloc, start) {
+        Ok((made, line)) => run_made::<Brand, R, S, W, C, G, V>(
+            rt, alloc, devices, catalog, made, line, config, gates, audience,
         ),
         Err(start) => (Outcome::unread(alloc, start), audience.into_watches()),
     }
 }
 
-// A run on a store that has names.
-fn run_store<N, R, S, W, C, G, V>(
+// A run on a store that is made of this, and has names.
+fn run_made<N, R, S, W, C, G, V>(
     rt: &R,
     alloc: Global,
     devices: &mut Devices<S, W, C>,
     catalog: &Catalog,
-    store: Store,
+    made: Made,
     line: Line,
     config: &Config,
     gates: Vec<G>,
@@ -164,10 +212,7 @@ where
     C: Clock,
     G: Gate + Drop + Send,
     V: Watch + Drop + Send,
-    requires tickets { store.tickets ≡ N.tickets }
-    requires line { store.line.name ≡ N.line }
-    requires schema { store.schema ≡ N.schema }
-    requires starts { store.world ≡ starting N.start }
+    requires names { AreNames N.shares N.line N.tables N.schema N.start made }
     requires valid { IsValid N.schema N.start }
     requires name { line.name ≡ N.line }
     requires none { line.list ≡ [] }
@@ -177,13 +222,52 @@ where
     ensures knows { All (KnowsRun V.knows N.schema N.start audience.loader.skip result.0) result.1.items }
     ensures count { length result.1.items ≡ length audience.watches.items }
 {
-    let store = SharedStore::<N>::new(store);
+    match Store::<N>::new(alloc, made) {
+        Ok(store) => run_store(
+            rt, alloc, devices, catalog, store, line, config, gates, audience,
+        ),
+        Err(made) => (
+            Outcome::unread(alloc, made.into_tables()),
+            audience.into_watches(),
+        ),
+    }
+}
+
+// A run on a store in which nothing has happened.
+fn run_store<N, R, S, W, C, G, V>(
+    rt: &R,
+    alloc: Global,
+    devices: &mut Devices<S, W, C>,
+    catalog: &Catalog,
+    store: Store<N>,
+    line: Line,
+    config: &Config,
+    gates: Vec<G>,
+    audience: Audience<V>,
+) -> (Outcome, Vec<V>)
+where
+    N: StoreNames + Send + Sync,
+    R: Threads + Wait + Sync,
+    S: Source,
+    W: Sink,
+    C: Clock,
+    G: Gate + Drop + Send,
+    V: Watch + Drop + Send,
+    requires valid { IsValid N.schema N.start }
+    requires name { line.name ≡ N.line }
+    requires none { line.list ≡ [] }
+    requires keys { N.schema ≡ map keys_of catalog.now }
+    requires knows { All (KnowsStart V.knows N.schema N.start audience.loader.skip) audience.watches.items }
+    ensures run { IsRunByWorkers (setting_of (length gates.items) config.now catalog.now) N.start devices.old devices.new result.0 }
+    ensures knows { All (KnowsRun V.knows N.schema N.start audience.loader.skip result.0) result.1.items }
+    ensures count { length result.1.items ≡ length audience.watches.items }
+{
     match make_parts(alloc, gates.len(), config.ring) {
         Ok(parts) => run_workers::<N, Brand, R, S, W, C, G, V>(
             rt, alloc, devices, catalog, store, line, config, parts, gates, audience,
         ),
         Err(_) => {
-            let outcome = shut(store, line, 0, End::OutOfMemory);
+            let outcome = shut(rt, store, line, 0, End::OutOfMemory);
             (outcome, audience.into_watches())
         }
     }
@@ -195,7 +279,7 @@ fn run_workers<N, L, R, S, W, C, G, V>(
     alloc: Global,
     devices: &mut Devices<S, W, C>,
     catalog: &Catalog,
-    store: SharedStore<N>,
+    store: Store<N>,
     line: Line,
     config: &Config,
     parts: Vec<Parts<N>>,
@@ -233,7 +317,7 @@ where
             rt, alloc, devices, catalog, store, line, *config, mailboxes, pool, audience,
         ),
         _ => {
-            let outcome = shut(store, line, 0, End::OutOfMemory);
+            let outcome = shut(rt, store, line, 0, End::OutOfMemory);
             (outcome, audience.into_watches())
         }
     }
@@ -245,7 +329,7 @@ fn run_pool<N, L, R, S, W, C, G, V>(
     alloc: Global,
     devices: &mut Devices<S, W, C>,
     catalog: &Catalog,
-    mut store: SharedStore<N>,
+    store: Store<N>,
     mut line: Line,
     config: Config,
     mailboxes: Vec<Mailbox<Job<N, L>>>,
@@ -283,14 +367,23 @@ where
         loader,
         ..
     } = audience;
-    store.meet(&mut line);
     let watching = Watching::<L>::new(origin);
-    let watchers = match make_watchers(alloc, &mut store, &watching.origin, loader, watches) {
+    let watchers = match make_watchers(
+        rt,
+        alloc,
+        &store,
+        &mut line,
+        &watching.origin,
+        loader,
+        watches,
+    ) {
         Ok(watchers) => watchers,
-        Err(watches) => return (shut(store, line, 0, End::OutOfMemory), watches),
+        Err(watches) => return (shut(rt, store, line, 0, End::OutOfMemory), watches),
     };
     let shared = share(alloc, store, pool.shared);
-    let Ok(workers) = make_handles(alloc, pool.ends, &shared.workers, &mailboxes) else {
+    let handles = make_handles(alloc, pool.ends, &shared.workers, &mailboxes);
+    let tickets = Vec::with_capacity(alloc, mailboxes.len() + 1);
+    let (Ok(workers), Ok(tickets)) = (handles, tickets) else {
         let finished = Finished {
             end: End::OutOfMemory,
             line,
@@ -302,6 +395,7 @@ where
     let opening = Opening {
         line,
         workers,
+        tickets,
         given: pool.given,
         positions: Positions::new(&watching.origin, publisher),
         watching: &watching,
@@ -315,15 +409,14 @@ where
 // What a leader and its workers share, at the start.
 fn share<N: StoreNames, L: RunNames, G: Drop>(
     alloc: Global,
-    store: SharedStore<N>,
+    store: Store<N>,
     workers: Vec<WorkerShared<N, L, G>>,
 ) -> Shared<N, L, G>
     ensures { result.workers ≡ workers }
 {
     Shared {
         alloc,
-        store: Mutex::new(store),
-        changed: Condvar::new(),
+        store,
         workers,
         moved: EventCount::new(),
         refused: AtomicBool::new(false),
@@ -356,6 +449,8 @@ where
     requires unpublished { opening.positions ≡ [] }
     requires free { All IsIdle opening.workers.items }
     requires workers { length opening.workers.items ≡ length mailboxes.now }
+    requires empty { opening.tickets.items ≡ [] }
+    requires room { length mailboxes.now < vec_capacity opening.tickets }
     requires keys { N.schema ≡ map keys_of catalog.now }
     requires valid { IsValid N.schema N.start }
     ensures name { result.0.line.name ≡ N.line }
@@ -391,11 +486,13 @@ struct Leader<'a, N: StoreNames, L: RunNames, G: Drop, S: Source, W: Sink, C: Cl
     opening: Opening<'a, N, L, G>,
 }
 
-// The line of a new store, workers to which nothing was given, and what is told to those who watch.
+// The line of a new store, workers to which nothing was given, room for the tickets of all transactions
+// that are open at once, and what is told to those who watch.
 #[derive(Drop)]
 struct Opening<'a, N: StoreNames, L: RunNames, G: Drop> {
     line: Line,
     workers: Vec<WorkerHandle<'a, N, L, G>>,
+    tickets: Vec<Ticket<N>>,
     given: Vec<(Xid, u64)>,
     positions: Positions<'a, L>,
     watching: &'a Watching<L>,
@@ -420,7 +517,7 @@ where
     C: Clock,
     G: Gate + Drop,
 {
-    ghost use Rattle.std.specs.Prelude.{◌≡◌, [], All, false, length, map};
+    ghost use Rattle.std.specs.Prelude.{◌≡◌, ◌<◌, [], All, false, length, map, vec_capacity};
     ghost use Rattle.model.specs.Rows.{keys_of, IsValid};
     ghost use Rattle.engine.specs.Events.{ends_in};
     ghost use Rattle.origin.specs.Commits.{commits_of};
@@ -432,7 +529,7 @@ where
     type Left = (&'a mut Devices<S, W, C>, Finished);
 
     ghost can_lead = { λ l n. (l.opening.line.name ≡ N.line) × (l.opening.line.list ≡ []) × (l.opening.positions ≡ [])
-        × All IsIdle l.opening.workers.items × (length l.opening.workers.items ≡ n) × (N.schema ≡ map keys_of l.catalog.now) × IsValid N.schema N.start };
+        × All IsIdle l.opening.workers.items × (length l.opening.workers.items ≡ n) × (l.opening.tickets.items ≡ []) × (n < vec_capacity l.opening.tickets) × (N.schema ≡ map keys_of l.catalog.now) × IsValid N.schema N.start };
 
     ghost lead_gives = { λ l n has_all left. (left.0.ghost_name ≡ l.devices.ghost_name) × (left.1.line.name ≡ N.line)
         × (left.1.publisher ≡ commits_of L.origin (ends_in left.1.line.list))
@@ -469,8 +566,7 @@ where
 }
 
 // Reads the stream to its end, if all threads could be started. Once the workers have given up, decides
-// how the run ends and undoes what is open, before anybody else gets the store; then tells the end to
-// those who watch.
+// how the run ends and undoes what is open; then tells the end to those who watch.
 fn lead_all<'a, N, L, R, S, W, C, G>(
     rt: &'a R,
     alloc: Global,
@@ -495,6 +591,8 @@ where
     requires unpublished { opening.positions ≡ [] }
     requires free { All IsIdle opening.workers.items }
     requires workers { length opening.workers.items ≡ workers }
+    requires empty { opening.tickets.items ≡ [] }
+    requires room { workers < vec_capacity opening.tickets }
     requires keys { N.schema ≡ map keys_of catalog.now }
     requires valid { IsValid N.schema N.start }
     ensures name { result.line.name ≡ N.line }
@@ -505,6 +603,7 @@ where
     let Opening {
         line,
         workers: handles,
+        tickets,
         given,
         positions,
         watching,
@@ -520,9 +619,16 @@ where
         given,
         publisher,
     } = left;
-    let mut store = shared.store.lock(rt);
-    let end = finish(&mut *store, &mut line, begun, handles, &given, proposed);
-    drop(store);
+    let end = finish(
+        rt,
+        &shared.store,
+        &mut line,
+        begun,
+        handles,
+        tickets,
+        &given,
+        proposed,
+    );
     watching.signal_end();
     Finished {
         end,
@@ -593,22 +699,33 @@ where
         mut publisher,
     } = finished;
     let Shared { store, .. } = shared;
-    let mut store = store.into_inner();
-    store.meet(&mut line);
     let origin = watching.origin();
-    let watches = gather(rt, &mut store, origin, &mut publisher, watchers, home);
-    (shut(store, line, position, end), watches)
+    let watches = gather(
+        rt,
+        &store,
+        &mut line,
+        origin,
+        &mut publisher,
+        watchers,
+        home,
+    );
+    (shut(rt, store, line, position, end), watches)
 }
 
 // What a run leaves: all that is still open is undone.
-fn shut<N: StoreNames>(store: SharedStore<N>, line: Line, position: Lsn, end: End) -> Outcome
+fn shut<N: StoreNames, R: Wait>(
+    rt: &R,
+    store: Store<N>,
+    line: Line,
+    position: Lsn,
+    end: End,
+) -> Outcome
     requires { line.name ≡ N.line }
     ensures shut { IsShutSo N.schema N.start line.list result }
     ensures position { result.position ≡ position }
     ensures end { result.end ≡ end }
 {
-    store.recall_invariant();
-    let (tables, journal) = store.shut(line);
+    let (tables, journal) = store.close(rt, line);
     Outcome {
         tables,
         journal,

@@ -5,15 +5,15 @@
 // turns do, and the leader ends the run.
 //
 // Each begins with a reader that has seen nothing. Once it has come back, what it has seen is compared
-// with the store's line, and what it has loaded with what was published.
+// with the store's line, under the journal's lock, and what it has loaded with what was published.
 ghost use Rattle.std.specs.Prelude.{◌≡◌, ◌≤◌, [], All, IfOk, IfErr, length, vec_capacity};
+ghost use Rattle.model.specs.Beginning.{Begins};
 ghost use Rattle.origin.specs.Commits.{commits_of, loaded_of};
 ghost use Rattle.leader.specs.Watching.{KnowsStart, KnowsAlong};
 
 use crate::chief::{Onlooker, Onlookers, Turns};
 use crossbeam_utils::sync::EventCount;
 use dispatch::{RunNames, Shared};
-use engine::{Seen, SharedStore, StoreNames};
 use model::Lsn;
 use origin::{Loader, Origin, Publisher};
 use snapshot::{Reader, Watch};
@@ -23,6 +23,7 @@ use std::sync::Wait;
 use std::sync::atomic::{AtomicBool, Ordering};
 use std::thread;
 use std::thread::Threads;
+use table_locks::{Line, Seen, Store, StoreNames};
 use worker::Gate;
 
 /// Those who are to watch a run, room for them once they come back, and the position that it is to
@@ -173,13 +174,15 @@ impl<N: StoreNames, L: RunNames, V: Watch + Drop> Watcher<N, L, V> {
     pub fn into_watch<R: Wait>(
         self,
         rt: &R,
-        store: &mut SharedStore<N>,
+        store: &Store<N>,
+        line: &mut Line,
         origin: &Origin,
         publisher: &mut Publisher,
     ) -> V
-        requires { (origin.now ≡ L.origin) × (publisher.old.origin ≡ L.origin) }
-        ensures knows { KnowsAlong V.knows N.schema N.start L.skip store.old.line.list publisher.old.ends result }
-        ensures same { (store.new ≡ store.old) × (publisher.new ≡ publisher.old) }
+        requires name { line.old.name ≡ N.line }
+        requires origin { (origin.now ≡ L.origin) × (publisher.old.origin ≡ L.origin) }
+        ensures knows { KnowsAlong V.knows N.schema N.start L.skip line.old.list publisher.old.ends result }
+        ensures same { (line.new ≡ line.old) × (publisher.new ≡ publisher.old) }
     {
         let Watcher {
             watch,
@@ -187,7 +190,7 @@ impl<N: StoreNames, L: RunNames, V: Watch + Drop> Watcher<N, L, V> {
             mut loader,
             ..
         } = self;
-        store.look(&mut seen);
+        look(rt, store, line, &mut seen);
         origin.meet(rt, publisher, &mut loader);
         watch
     }
@@ -241,20 +244,46 @@ fn give_turns<N: StoreNames, L: RunNames, V: Watch, R: Wait>(
     let _ = watch.turn(rt, reader);
 }
 
+// What the store's line tells, as a reader sees it.
+fn watch_line<N: StoreNames, R: Wait>(rt: &R, store: &Store<N>, line: &mut Line) -> Seen
+    requires { line.old.name ≡ N.line }
+    ensures seen { result ≡ line.old }
+    ensures line { line.new ≡ line.old }
+{
+    let mut journal = store.lock_journal(rt);
+    journal.meet(line);
+    journal.watch()
+}
+
+// Learns that what was seen is a beginning of the store's line.
+fn look<N: StoreNames, R: Wait>(rt: &R, store: &Store<N>, line: &mut Line, seen: &mut Seen)
+    requires name { line.old.name ≡ N.line }
+    requires its { seen.old.name ≡ N.line }
+    ensures begins { Begins seen.old.list line.old.list }
+    ensures line { line.new ≡ line.old }
+{
+    let mut journal = store.lock_journal(rt);
+    journal.meet(line);
+    journal.look(seen);
+}
+
 /// A watcher of each, that has seen nothing yet, and room for as many. Refused for memory, it hands them
 /// back.
-pub fn make_watchers<N: StoreNames, L: RunNames, V: Watch + Drop>(
+pub fn make_watchers<N: StoreNames, L: RunNames, V: Watch + Drop, R: Wait>(
+    rt: &R,
     alloc: Global,
-    store: &mut SharedStore<N>,
+    store: &Store<N>,
+    line: &mut Line,
     origin: &Origin,
     loader: Loader,
     watches: Vec<V>,
 ) -> Result<Onlookers<Watcher<N, L, V>>, Vec<V>>
+    requires name { line.old.name ≡ N.line }
+    requires unseen { line.old.list ≡ [] }
     requires origin { (loader.origin ≡ origin.now) × (origin.now ≡ L.origin) }
     requires loaded { (loader.ends ≡ []) × (loader.skip ≡ L.skip) }
-    requires unseen { store.old.line.list ≡ [] }
     requires knows { All (KnowsStart V.knows N.schema N.start L.skip) watches.items }
-    ensures same { store.new ≡ store.old }
+    ensures line { line.new ≡ line.old }
     ensures count { IfOk result (λ made. length made.all.items ≡ length watches.items) }
     ensures back { IfErr result (λ back. back ≡ watches) }
 {
@@ -268,7 +297,7 @@ pub fn make_watchers<N: StoreNames, L: RunNames, V: Watch + Drop>(
     for watch in watches {
         let (own, others) = loader.split(origin);
         loader = others;
-        let watcher = Watcher::new(watch, store.watch(), own);
+        let watcher = Watcher::new(watch, watch_line(rt, store, line), own);
         all.push_reserved(Onlooker::Here(watcher));
     }
     Ok(Onlookers { all, room })
@@ -277,22 +306,24 @@ pub fn make_watchers<N: StoreNames, L: RunNames, V: Watch + Drop>(
 /// Those who watched, once each is back and was compared.
 pub fn gather<N: StoreNames, L: RunNames, V: Watch + Drop, R: Threads + Wait>(
     rt: &R,
-    store: &mut SharedStore<N>,
+    store: &Store<N>,
+    line: &mut Line,
     origin: &Origin,
     publisher: &mut Publisher,
     onlookers: Vec<Onlooker<Watcher<N, L, V>>>,
     mut home: Vec<V>,
 ) -> Vec<V>
+    requires name { line.old.name ≡ N.line }
     requires origin { (origin.now ≡ L.origin) × (publisher.old.origin ≡ L.origin) }
     requires empty { home.items ≡ [] }
     requires room { length onlookers.items ≤ vec_capacity home }
-    ensures knows { All (KnowsAlong V.knows N.schema N.start L.skip store.old.line.list publisher.old.ends) result.items }
+    ensures knows { All (KnowsAlong V.knows N.schema N.start L.skip line.old.list publisher.old.ends) result.items }
     ensures count { length result.items ≡ length onlookers.items }
-    ensures same { store.new ≡ store.old }
+    ensures line { line.new ≡ line.old }
 {
     for onlooker in onlookers {
         let watcher = onlooker.join(rt);
-        home.push_reserved(watcher.into_watch(rt, store, origin, publisher));
+        home.push_reserved(watcher.into_watch(rt, store, line, origin, publisher));
     }
     home
 }

@@ -10,7 +10,7 @@ use crate::between::Between;
 use crate::keep::Keep;
 use crate::stop::Stop;
 use crate::taken::Taken;
-use engine::{Entry, StoreNames};
+use engine::Entry;
 use mirror_devices::Arrival;
 use mirror_statements::Commit;
 use model::Lsn;
@@ -19,6 +19,7 @@ use std::alloc::Global;
 use std::sync::Wait;
 use std::thread;
 use std::time::{Clock, Duration};
+use table_locks::StoreNames;
 
 /// How many milliseconds it sleeps where nothing is committed, and what is done between two transactions is
 /// due soon.

@@ -82,7 +82,7 @@ module _ (g : Setting) (rows : Rows) (s : State) (rest : List CopyItem) (outboxe
 
   pub is_world : IsWorldOf g rows s rest w
   is_world = record {
-    reached = are.reached;
+    led = are.led;
     line = are.line;
     opened = λ xid done at.
         let is = there xid done at in (
@@ -102,7 +102,7 @@ module _ (g : Setting) (rows : Rows) (s : State) (rest : List CopyItem) (outboxe
       → (sub : ℕ) (e : change_type.Change) → done.wants ≡ Some (sub, e) → HasConflict g s rest w cause
   noted_conflict valid xid c cause stopped done at sub e wanted =
       let is = there xid done at in
-      let same = is_wanted (schema_of g) rows w are.reached xid c cause stopped done sub e at wanted in
+      let same = is_wanted (schema_of g) rows w valid are.led xid c cause stopped done sub e at wanted in
       let wants : done.wants ≡ Some (sub, c) = wanted ∙ ap (λ (d : change_type.Change). Some (sub, d)) same in
       record {
         xid = xid;
@@ -117,7 +117,7 @@ module _ (g : Setting) (rows : Rows) (s : State) (rest : List CopyItem) (outboxe
           change = c;
           after = (is.4.wants sub c wants).0 ++ is.2.queued;
           in_turn = refl;
-          so = still_clashes (schema_of g) rows w valid are.reached xid c cause stopped done sub at wants;
+          so = still_clashes (schema_of g) rows w valid are.led xid c cause stopped done sub at wants;
         };
       }
 

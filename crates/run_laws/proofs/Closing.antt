@@ -1,7 +1,6 @@
 -- Aborting all that is open leaves the commits alone.
 use Rattle.std.proofs.Common.{◌≡◌, ◌≢◌, ℕ, true, false, List, [], ◌∷◌, Option, Some, None, refl, sym, ap, subst, ◌∙◌, inl, inr}
 use Rattle.std.specs.Prelude.{cond, ◌⊎◌}
-use Rattle.std.proofs.Math.Logic.{∥∥₁_map}
 use Rattle.std.proofs.lemmas.Map.Views.{tells_apart}
 use Rattle.std.specs.Ordering.{nat_cmp}
 use Rattle.std.specs.FinMap as finite
@@ -13,8 +12,10 @@ use Rattle.run.specs.Cause.{schema_of}
 use Rattle.run.specs.Devices.{DeviceState}
 use Rattle.world.specs.FineLemmas.{gone_cases}
 use Rattle.world.specs.ListingLemmas.{same_by_xid}
-use Rattle.world.specs.World.{Opened, World, starting, journal, is_xid}
-use Rattle.world.specs.Steps.{Reaches, by_step, aborts, aborted_with, Closes}
+use Rattle.world.specs.World.{Opened, World, journal, is_xid}
+use Rattle.world.specs.Steps.{aborts, aborted_with, Closes}
+use Rattle.world_parts.specs.Led.{IsLed}
+use Rattle.world_parts.specs.LedLemmas.{led_step}
 use Rattle.run_laws.specs.Runs.{LeavesWorld}
 use Rattle.run_laws.specs.ThreadedRun.{IsThreadedRun}
 
@@ -64,25 +65,27 @@ none_open w among = same_by_xid w.opened finite.empty (λ xid. by_found xid (get
     by_found xid None e = e ∙ sym (finite.get-empty nat_cmp xid)
     by_found xid (Some o) e = absurd (among xid o e)
 
-all_aborted : (schema : Schema) (from : World) (es : List (ℕ × Opened)) (w : World) → AreAmong w es
-    → Reaches schema from w → Reaches schema from (emptied w)
-all_aborted schema from [] w among reached =
-    subst (λ m. Reaches schema from (record w { opened = m })) (none_open w among) reached
-all_aborted schema from (e ∷ es) w among reached =
-    elim (get w.opened e.0) as (λ found. get w.opened e.0 ≡ found → Reaches schema from (emptied w)) [
-      | None ↦ λ is. all_aborted schema from es w (among_none w e es among is) reached
+all_aborted : (schema : Schema) (rows : Rows) (es : List (ℕ × Opened)) (w : World) → AreAmong w es
+    → IsLed schema rows w → IsLed schema rows (emptied w)
+all_aborted schema rows [] w among led =
+    subst (λ m. IsLed schema rows (record w { opened = m })) (none_open w among) led
+all_aborted schema rows (e ∷ es) w among led =
+    elim (get w.opened e.0) as (λ found. get w.opened e.0 ≡ found → IsLed schema rows (emptied w)) [
+      | None ↦ λ is. all_aborted schema rows es w (among_none w e es among is) led
       | Some o ↦ λ is.
-          all_aborted schema from es (aborted_with w e.0) (among_gone w e es among)
-          (by_step w (aborted_with w e.0) reached (aborts e.0 o (aborted_with w e.0) is refl))
+          all_aborted schema rows es (aborted_with w e.0) (among_gone w e es among)
+          (led_step schema rows w (aborted_with w e.0) led (aborts e.0 o (aborted_with w e.0) is refl))
     ] refl
 
 pub closed : (g : Setting) (rows : Rows) (old new : DeviceState) (o : Outcome)
     (run : IsThreadedRun g rows old new o)
-    → (closed : World) × ∥ Reaches (schema_of g) (starting rows) closed ∥₁
+    → (closed : World) × IsLed (schema_of g) rows closed
     × Closes closed o.tables.rows (journal closed) × LeavesWorld o closed
 closed g rows old new o run = (
   emptied run.world,
-  ∥∥₁_map run.is_world.reached (all_aborted (schema_of g) (starting rows) (entries run.world.opened) run.world (λ xid p at. found_among xid (entries run.world.opened) p (sym (get-entries run.world.opened xid) ∙ at))),
+  all_aborted (schema_of g) rows (entries run.world.opened) run.world
+      (λ xid p at. found_among xid (entries run.world.opened) p (sym (get-entries run.world.opened xid) ∙ at))
+      run.is_world.led,
   (refl, run.left.tables, refl),
   record { entries = run.left.entries; position = run.left.position; tables = run.left.tables },
 )

@@ -11,7 +11,7 @@ mod Unthreaded
 mod FirstCause
 mod NoWorkers
 mod WithoutThreads
-mod Closing
+pub mod Closing
 mod Noted
 pub mod Books
 pub mod Steps

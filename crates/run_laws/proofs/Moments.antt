@@ -1,5 +1,6 @@
 -- Whatever a leader and its workers do, one after another, all transactions stay in step with the world.
 use Rattle.std.proofs.Common.{◌≡◌, ◌≢◌, ℕ, List, ◌∷◌, refl, sym, subst, ◌∙◌}
+use Rattle.std.specs.Prelude.{Ok}
 use Rattle.model.specs.Rows.{Rows}
 use Rattle.messages.specs.declared.message.Message.{Message}
 use Rattle.frames.specs.declared.item.CopyItem.{CopyItem}
@@ -8,8 +9,8 @@ use Rattle.session.specs.Lawful.{Admits}
 use Rattle.session.specs.State.{Way, Direct, Worker, Spooled, Committed, Setting}
 use Rattle.session.specs.StreamEvents.{StreamEvent, NoEvent, TransactionOpens, ItemComes, TransactionCommits, TransactionAborts, Tells, IsCommitting}
 use Rattle.run.specs.Cause.{schema_of}
-use Rattle.world.specs.World.{World}
-use Rattle.world.specs.Steps.{committed_with, aborted_with}
+use Rattle.world.specs.World.{World, starting}
+use Rattle.world.specs.Steps.{opens, commits, aborts, Reaches, at_start, by_step, done_with, wanting, committed_with, aborted_with}
 use Rattle.run_laws.specs.Leading.{AreInStep}
 use Rattle.run_laws.specs.Runs.{CommitsNext}
 use Rattle.run_laws.specs.Threads.{IsWorldOf}
@@ -106,6 +107,53 @@ turn_in_step g rows a _ are (unspools_one xid o work after new at spooled is cal
 turn_in_step g rows a _ are (stops_world stopped call) =
     stops g rows a.state a.rest a.outboxes a.world stopped are call
 
+-- ---- each of these is a call in the world, or alters nothing there
+
+module _ (g : Setting) (rows : Rows) where
+  abbrev AreCalls : World → Type 0
+  AreCalls w = Reaches (schema_of g) (starting rows) w
+
+  follows_calls : (a b : Moment) (told : StreamEvent) → AreCalls a.world → Follows g a b told → AreCalls b.world
+  follows_calls a b NoEvent before same = subst AreCalls (sym same.world) before
+  follows_calls a b (TransactionOpens xid Direct) before both =
+      by_step a.world b.world before (opens xid (Ok tt) b.world both.call)
+  follows_calls a b (TransactionOpens xid Worker) before both =
+      by_step a.world b.world before (opens xid (Ok tt) b.world both.call)
+  follows_calls a b (TransactionOpens xid Spooled) before same = subst AreCalls (sym same.world) before
+  follows_calls a b (ItemComes xid Direct item size) before queued = subst AreCalls (sym queued.world) before
+  follows_calls a b (ItemComes xid Worker item size) before queued = subst AreCalls (sym queued.world) before
+  follows_calls a b (ItemComes xid Spooled item size) before same = subst AreCalls (sym same.world) before
+  follows_calls a b (TransactionCommits c) before done =
+      let new = committed_with (schema_of g) a.world c.xid done.0 c.info in
+      subst AreCalls (sym done.4) (by_step a.world new before (commits c.xid done.0 c.info new done.1 refl))
+  follows_calls a b (TransactionAborts xid Direct) before both =
+      let new = aborted_with a.world xid in
+      subst AreCalls (sym both.world) (by_step a.world new before (aborts xid both.done new both.present refl))
+  follows_calls a b (TransactionAborts xid Worker) before both =
+      let new = aborted_with a.world xid in
+      subst AreCalls (sym both.world) (by_step a.world new before (aborts xid both.done new both.present refl))
+  follows_calls a b (TransactionAborts xid Spooled) before same = subst AreCalls (sym same.world) before
+
+  turn_calls : (a b : Moment) → AreCalls a.world → Turn g a b → AreCalls b.world
+  turn_calls a _ before (handles b first last payload m told rest_is admits tells followed) =
+      follows_calls a b told before followed
+  turn_calls a _ before (hears last reply rest is) = before
+  turn_calls a _ before (passes rest is) = before
+  turn_calls a _ before (sends_one xid o outbox done i queued after at first now) = before
+  turn_calls a _ before (does_one xid o outbox done i left at next call) =
+      by_step a.world (done_with a.world xid done i) before call
+  turn_calls a _ before (wants_one xid o outbox done sub c left stopped at next call) =
+      by_step a.world (record (wanting a.world xid done sub c) { stopped = stopped }) before call
+  turn_calls a _ before (unspools_one xid o work after new at spooled is call outbox) =
+      by_step a.world new before (opens xid (Ok tt) new call)
+  turn_calls a _ before (stops_world stopped call) = by_step a.world (record a.world { stopped = stopped }) before call
+
+  turns_calls : (items : List CopyItem) (b : Moment) → Turns g (start_moment rows items) b → AreCalls b.world
+  turns_calls items _ at_first = at_start
+  turns_calls items _ (by_turn a b before turn) = turn_calls a b (turns_calls items a before) turn
+
+-- ---- such things one after another
+
 pub turns_in_step : (g : Setting) (rows : Rows) (items : List CopyItem) (b : Moment) → Turns g (start_moment rows items) b
     → IsInStep g rows b
 turns_in_step g rows items _ at_first = start_in_step g rows items
@@ -113,5 +161,7 @@ turns_in_step g rows items _ (by_turn a b before turn) = turn_in_step g rows a b
 
 pub each_moment : (g : Setting) (rows : Rows) (items : List CopyItem) (a : Moment) → Turns g (start_moment rows items) a
     → IsInStep g rows a × IsWorldOf g rows a.state a.rest a.world
+    × ∥ Reaches (schema_of g) (starting rows) a.world ∥₁
 each_moment g rows items a turns =
-    let are = turns_in_step g rows items a turns in (are, is_world g rows a.state a.rest a.outboxes a.world are)
+    let are = turns_in_step g rows items a turns in
+    (are, is_world g rows a.state a.rest a.outboxes a.world are, ∣ turns_calls g rows items a turns ∣₁)

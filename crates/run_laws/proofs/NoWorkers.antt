@@ -30,7 +30,9 @@ use Rattle.run.specs.Progress.{Progress, Leads, start_progress}
 use Rattle.run.specs.Run.{IsRun}
 use Rattle.run.specs.StreamPart.{StreamPart}
 use Rattle.world.specs.ListingLemmas.{xid_cases, got_same, got_other, gone_same, gone_other}
-use Rattle.world.specs.World.{Opened, OpenOnes, World}
+use Rattle.world.specs.Steps.{Reaches}
+use Rattle.world.specs.World.{Opened, OpenOnes, World, starting}
+use Rattle.world_parts.specs.LedLemmas.{led_reached}
 use Rattle.run_laws.proofs.Begun.{IsSane, open_items, begun_in, begun, Moves}
 use Rattle.run_laws.proofs.WorldAt.{committed_past, open_ones, world_at, TellsRun, conflict, IsTurnOf, IsStoppedBy}
 use Rattle.run_laws.specs.Runs.{IsAtMostOne, DoesAtCommit, NextChange}
@@ -361,7 +363,9 @@ module _ (g : Setting) (rows : Rows) (old new : DeviceState) (o : Outcome) (run 
 
   -- a run with workers that handled the same items
   abbrev IsSame : Type 0
-  IsSame = (same : IsThreadedRun g rows old new o) × (same.part.handled ≡ run.part.handled)
+  IsSame =
+      (same : IsThreadedRun g rows old new o) × (same.part.handled ≡ run.part.handled)
+      × ∥ Reaches (schema_of g) (starting rows) same.world ∥₁
 
   at_world : (w : World) → TellsRun g rows s o w
       → ((xid : ℕ) (done : Opened) → get w.opened xid ≡ Some done → IsOpen g s run.part.rest sane plain xid done)
@@ -370,12 +374,13 @@ module _ (g : Setting) (rows : Rows) (old new : DeviceState) (o : Outcome) (run 
     record {
       part = run.part;
       world = w;
-      is_world = record { reached = ∣ tells.reached ∣₁; line = tells.line ∙ sym plain.past; opened = opened };
+      is_world = record { led = led_reached (schema_of g) rows w ∣ tells.reached ∣₁; line = tells.line ∙ sym plain.past; opened = opened };
       cause = threaded_cause g rows old new run.part w tells.running o.end run.cause clashes;
       left = tells.left;
       schema = run.schema;
     },
     refl,
+    ∣ tells.reached ∣₁,
   )
 
   by_conflict : (found : Option ClashCause) → conflict o.end ≡ found → IsSame

@@ -1,7 +1,6 @@
 -- Each thing that a leader or a worker does keeps all of its transactions in step with the world.
 use Rattle.std.proofs.Common.{◌≡◌, ◌≢◌, ℕ, List, [], ◌∷◌, ◌++◌, Option, Some, None, refl, sym, ap, subst, ◌∙◌, append_assoc, inl, inr}
 use Rattle.std.specs.Prelude.{map, Ok}
-use Rattle.std.proofs.Math.Logic.{∥∥₁_map}
 use Rattle.std.proofs.lemmas.List.{map-append}
 use Rattle.std.specs.Ordering.{nat_cmp}
 use Rattle.std.specs.FinMap as finite
@@ -19,8 +18,10 @@ use Rattle.session.specs.State.{Way, Direct, Worker, Spooled, Open, Committed, S
 use Rattle.session.specs.StreamEvents.{Same, IsOpening, IsGiving, IsCommitting, IsAborting}
 use Rattle.run.specs.Cause.{schema_of}
 use Rattle.world.specs.ListingLemmas.{xid_cases, got_same, got_other, gone_same, gone_other}
-use Rattle.world.specs.Steps.{Opens, Step, opens, commits, aborts, Reaches, at_start, by_step, done_with, wanting, committed_with, aborted_with}
+use Rattle.world.specs.Steps.{Opens, Step, opens, commits, aborts, done_with, wanting, committed_with, aborted_with}
 use Rattle.world.specs.World.{Opened, Stop, World, starting}
+use Rattle.world_parts.specs.Led.{IsLed}
+use Rattle.world_parts.specs.LedLemmas.{led_start, led_step}
 use Rattle.run_laws.specs.Runs.{CommitsNext}
 use Rattle.run_laws.specs.Threads.{IsWork, work_of, done_by_commit}
 use Rattle.run_laws.specs.Leading.{Outbox, InStep, IsAgreed, AreInStep, IsWith}
@@ -68,13 +69,13 @@ module _ (g : Setting) (rows : Rows) (s t : State) (rest more : List CopyItem) w
 
   -- one transaction moves, and all others are as they were
   one_moves : (outboxes after : ℕ → Option Outbox) (w new : World) (xid : ℕ) → AreInStep g rows s rest outboxes w
-      → ∥ Reaches (schema_of g) (starting rows) new ∥₁ → new.line ≡ map done_by_commit t.past
+      → IsLed (schema_of g) rows new → new.line ≡ map done_by_commit t.past
       → IsAgreed g t more xid (get t.transactions xid) (after xid) (get new.opened xid)
       → ((x : ℕ) → x ≢ xid → (get t.transactions x ≡ get s.transactions x) × (after x ≡ outboxes x) × (get new.opened x ≡ get w.opened x))
       → ((x : ℕ) → x ≢ xid → KeepsWork g s t rest more x)
       → AreInStep g rows t more after new
-  one_moves outboxes after w new xid are reached line here elsewhere next = record {
-    reached = reached;
+  one_moves outboxes after w new xid are led line here elsewhere next = record {
+    led = led;
     line = line;
     agree = λ x.
         elim (xid_cases x xid) [
@@ -162,7 +163,7 @@ module _ (g : Setting) (rows : Rows) (s t : State) (rest more : List CopyItem) (
   -- nothing
   pub nothing_told : Same s t → AreInStep g rows t more outboxes w
   nothing_told same = record {
-    reached = are.reached;
+    led = are.led;
     line = are.line ∙ ap (map done_by_commit) (sym same.past);
     agree = λ x.
         same_agreed g rows s t rest more x _ _ _ _ _ _ (ap (λ m. get m x) same.transactions) refl refl (none_next x) (are.agree x);
@@ -178,7 +179,7 @@ module _ (g : Setting) (rows : Rows) (s t : State) (rest more : List CopyItem) (
       let there : (x : ℕ) → get new.opened x ≡ get (finite.insert w.opened xid just_opened) x =
       λ x. ap (λ (v : World). get v.opened x) call.3 in
       one_moves g rows s t rest more outboxes after w new xid are
-      (∥∥₁_map are.reached (λ r. by_step w new r (opens xid (Ok tt) new call)))
+      (led_step (schema_of g) rows w new are.led (opens xid (Ok tt) new call))
       (line_same new (ap (λ (v : World). v.line) call.3) told.past)
       (subst (λ x. IsAgreed g t more xid x (after xid) (get new.opened xid)) (sym (ap (λ m. get m xid) told.transactions ∙ got_same s.transactions xid _))
       (subst (λ x. IsAgreed g t more xid (Some (record { way = way; items = [] })) x (get new.opened xid)) (sym outbox.here)
@@ -199,7 +200,7 @@ module _ (g : Setting) (rows : Rows) (s t : State) (rest more : List CopyItem) (
   pub spools_told : (xid : ℕ) → IsOpening s t xid Spooled → AreInStep g rows t more outboxes w
   spools_told xid told =
       let none = nowhere g s rest xid (get s.transactions xid) (outboxes xid) (get w.opened xid) told.absent (are.agree xid) in
-      one_moves g rows s t rest more outboxes outboxes w w xid are are.reached (line_same w refl told.past)
+      one_moves g rows s t rest more outboxes outboxes w w xid are are.led (line_same w refl told.past)
       (subst (λ x. IsAgreed g t more xid x (outboxes xid) (get w.opened xid)) (sym (ap (λ m. get m xid) told.transactions ∙ got_same s.transactions xid _))
       (subst (λ x. IsAgreed g t more xid (Some (record { way = Spooled; items = [] })) x (get w.opened xid)) (sym none.0)
       (subst (λ x. IsAgreed g t more xid (Some (record { way = Spooled; items = [] })) None x) (sym none.1) refl)))
@@ -211,7 +212,7 @@ module _ (g : Setting) (rows : Rows) (s t : State) (rest more : List CopyItem) (
       → o.way ≢ Spooled → outboxes xid ≡ Some l → IsWith outboxes after xid (Some (with_queued l item)) → AreInStep g rows t more after w
   gives_told xid item size o l after told not was outbox =
       let is = in_outbox g s rest xid (get s.transactions xid) o (outboxes xid) l (get w.opened xid) told.present was (are.agree xid) in
-      one_moves g rows s t rest more outboxes after w w xid are are.reached (line_same w refl told.past)
+      one_moves g rows s t rest more outboxes after w w xid are are.led (line_same w refl told.past)
       (subst (λ x. IsAgreed g t more xid x (after xid) (get w.opened xid)) (sym (ap (λ m. get m xid) told.transactions ∙ got_same s.transactions xid _))
       (subst (λ x. IsAgreed g t more xid (Some (record o { items = o.items ++ (item, size) ∷ [] })) x (get w.opened xid)) (sym outbox.here)
       (subst (λ x. IsAgreed g t more xid (Some (record o { items = o.items ++ (item, size) ∷ [] })) (Some (with_queued l item)) x) (sym is.1)
@@ -234,7 +235,7 @@ module _ (g : Setting) (rows : Rows) (s t : State) (rest more : List CopyItem) (
       → AreInStep g rows t more outboxes w
   keeps_told xid item size o told spooled =
       let none = not_yet g s rest xid (get s.transactions xid) o (outboxes xid) (get w.opened xid) told.present spooled (commits_none xid) (are.agree xid) in
-      one_moves g rows s t rest more outboxes outboxes w w xid are are.reached (line_same w refl told.past)
+      one_moves g rows s t rest more outboxes outboxes w w xid are are.led (line_same w refl told.past)
       (subst (λ x. IsAgreed g t more xid x (outboxes xid) (get w.opened xid)) (sym (ap (λ m. get m xid) told.transactions ∙ got_same s.transactions xid _))
       (subst (λ x. IsAgreed g t more xid (Some (record o { items = o.items ++ (item, size) ∷ [] })) x (get w.opened xid)) (sym none.0)
       (subst (λ x. IsAgreed g t more xid (Some (record o { items = o.items ++ (item, size) ∷ [] })) None x) (sym none.1) spooled)))
@@ -246,7 +247,7 @@ module _ (g : Setting) (rows : Rows) (s t : State) (rest more : List CopyItem) (
       → IsWith outboxes after xid None → AreInStep g rows t more after (aborted_with w xid)
   drops_told xid o d after told at outbox =
       one_moves g rows s t rest more outboxes after w (aborted_with w xid) xid are
-      (∥∥₁_map are.reached (λ r. by_step w (aborted_with w xid) r (aborts xid d (aborted_with w xid) at refl)))
+      (led_step (schema_of g) rows w (aborted_with w xid) are.led (aborts xid d (aborted_with w xid) at refl))
       (line_same (aborted_with w xid) refl told.past)
       (subst (λ x. IsAgreed g t more xid x (after xid) (get (finite.remove w.opened xid) xid)) (sym (ap (λ m. get m xid) told.transactions ∙ gone_same s.transactions xid))
       (subst (λ x. IsAgreed g t more xid None x (get (finite.remove w.opened xid) xid)) (sym outbox.here)
@@ -262,7 +263,7 @@ module _ (g : Setting) (rows : Rows) (s t : State) (rest more : List CopyItem) (
   pub forgets_told : (xid : ℕ) (o : Open) → IsAborting s t xid o → o.way ≡ Spooled → AreInStep g rows t more outboxes w
   forgets_told xid o told spooled =
       let none = not_yet g s rest xid (get s.transactions xid) o (outboxes xid) (get w.opened xid) told.present spooled (commits_none xid) (are.agree xid) in
-      one_moves g rows s t rest more outboxes outboxes w w xid are are.reached (line_same w refl told.past)
+      one_moves g rows s t rest more outboxes outboxes w w xid are are.led (line_same w refl told.past)
       (subst (λ x. IsAgreed g t more xid x (outboxes xid) (get w.opened xid)) (sym (ap (λ m. get m xid) told.transactions ∙ gone_same s.transactions xid))
       (subst (λ x. IsAgreed g t more xid None x (get w.opened xid)) (sym none.0)
       (subst (λ x. IsAgreed g t more xid None None x) (sym none.1) tt)))
@@ -279,7 +280,7 @@ pub commits_told : (g : Setting) (rows : Rows) (s t : State) (rest more : List C
     → AreInStep g rows t more after (committed_with (schema_of g) w c.xid d c.info)
 commits_told g rows s t rest more outboxes after w c d are told only at all outbox =
     one_moves g rows s t rest more outboxes after w new c.xid are
-    (∥∥₁_map are.reached (λ r. by_step w new r (commits c.xid d c.info new at refl)))
+    (led_step (schema_of g) rows w new are.led (commits c.xid d c.info new at refl))
     (ap (λ line. line ++ (record { xid = c.xid; items = d.items; info = c.info }) ∷ []) are.line
     ∙ ap (λ is. map done_by_commit s.past ++ (record { xid = c.xid; items = is; info = c.info }) ∷ []) all
     ∙ sym (map-append done_by_commit s.past (c ∷ [])) ∙ ap (map done_by_commit) (sym told.past))
@@ -311,11 +312,11 @@ in_step_at g rows s rest outboxes w are xid o l d at was there =
 
 module _ (g : Setting) (rows : Rows) (s : State) (rest : List CopyItem) (outboxes : ℕ → Option Outbox) (w : World) (are : AreInStep g rows s rest outboxes w) (xid : ℕ) (o : Open) (present : get s.transactions xid ≡ Some o) where
   -- one transaction's outbox, or what it has done, moves
-  abbrev moves : (after : ℕ → Option Outbox) (new : World) (k : Outbox) (e : Opened) → ∥ Reaches (schema_of g) (starting rows) new ∥₁
+  abbrev moves : (after : ℕ → Option Outbox) (new : World) (k : Outbox) (e : Opened) → IsLed (schema_of g) rows new
       → new.line ≡ w.line → InStep g s rest xid o k e → IsWith outboxes after xid (Some k)
       → ((x : ℕ) → get new.opened x ≡ get (finite.insert w.opened xid e) x) → AreInStep g rows s rest after new
-  moves after new k e reached line step outbox there =
-      one_moves g rows s s rest rest outboxes after w new xid are reached (line ∙ are.line)
+  moves after new k e led line step outbox there =
+      one_moves g rows s s rest rest outboxes after w new xid are led (line ∙ are.line)
       (subst (λ x. IsAgreed g s rest xid x (after xid) (get new.opened xid)) (sym present)
       (subst (λ x. IsAgreed g s rest xid (Some o) x (get new.opened xid)) (sym outbox.here)
       (subst (λ x. IsAgreed g s rest xid (Some o) (Some k) x) (sym (there xid ∙ got_same w.opened xid e)) step)))
@@ -329,7 +330,7 @@ module _ (g : Setting) (rows : Rows) (s : State) (rest : List CopyItem) (outboxe
       → l.queued ≡ i ∷ queued → IsWith outboxes after xid (Some (record { sent = l.sent ++ i ∷ []; queued = queued }))
       → AreInStep g rows s rest after w
   sends l d i queued after step at first outbox =
-      moves after w (record { sent = l.sent ++ i ∷ []; queued = queued }) d are.reached refl
+      moves after w (record { sent = l.sent ++ i ∷ []; queued = queued }) d are.led refl
       (record {
         all_work =
             subst (IsWork g s rest xid o.way o.items)
@@ -350,7 +351,7 @@ module _ (g : Setting) (rows : Rows) (s : State) (rest : List CopyItem) (outboxe
       → Step (schema_of g) w (done_with w xid d i) → AreInStep g rows s rest outboxes (done_with w xid d i)
   does l d i left step was first call =
       moves outboxes (done_with w xid d i) l (record { items = d.items ++ i ∷ []; wants = None })
-      (∥∥₁_map are.reached (λ r. by_step w (done_with w xid d i) r call)) refl
+      (led_step (schema_of g) rows w (done_with w xid d i) are.led call) refl
       (record {
         all_work = step.all_work;
         does = record { left = left; begins = append_assoc d.items (i ∷ []) left ∙ first };
@@ -365,7 +366,7 @@ module _ (g : Setting) (rows : Rows) (s : State) (rest : List CopyItem) (outboxe
       → AreInStep g rows s rest outboxes (record (wanting w xid d sub c) { stopped = stopped })
   wants l d sub c left stopped step was first call =
       moves outboxes (record (wanting w xid d sub c) { stopped = stopped }) l (record d { wants = Some (sub, c) })
-      (∥∥₁_map are.reached (λ r. by_step w (record (wanting w xid d sub c) { stopped = stopped }) r call)) refl
+      (led_step (schema_of g) rows w (record (wanting w xid d sub c) { stopped = stopped }) are.led call) refl
       (record {
         all_work = step.all_work;
         does = record { left = Change sub c ∷ left; begins = first };
@@ -386,7 +387,7 @@ module _ (g : Setting) (rows : Rows) (s : State) (rest : List CopyItem) (outboxe
       → AreInStep g rows s rest after new
   unspools work after new is call outbox =
       moves after new (record { sent = []; queued = work }) just_opened
-      (∥∥₁_map are.reached (λ r. by_step w new r (opens xid (Ok tt) new call))) (ap (λ (v : World). v.line) call.3)
+      (led_step (schema_of g) rows w new are.led (opens xid (Ok tt) new call)) (ap (λ (v : World). v.line) call.3)
       (record {
         all_work = is;
         does = record { left = []; begins = refl };
@@ -399,7 +400,7 @@ pub stops : (g : Setting) (rows : Rows) (s : State) (rest : List CopyItem) (outb
     → AreInStep g rows s rest outboxes w → Step (schema_of g) w (record w { stopped = stopped })
     → AreInStep g rows s rest outboxes (record w { stopped = stopped })
 stops g rows s rest outboxes w stopped are call = record {
-  reached = ∥∥₁_map are.reached (λ r. by_step w (record w { stopped = stopped }) r call);
+  led = led_step (schema_of g) rows w (record w { stopped = stopped }) are.led call;
   line = are.line;
   agree = are.agree;
 }
@@ -408,7 +409,7 @@ stops g rows s rest outboxes w stopped are call = record {
 
 pub start_in_step : (g : Setting) (rows : Rows) (rest : List CopyItem) → AreInStep g rows start rest (λ xid. None) (starting rows)
 start_in_step g rows rest = record {
-  reached = ∣ at_start ∣₁;
+  led = led_start (schema_of g) rows;
   line = refl;
   agree = λ xid.
       subst (λ o. IsAgreed g start rest xid o None (get (starting rows).opened xid)) (sym (finite.get-empty nat_cmp xid))

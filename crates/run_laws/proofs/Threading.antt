@@ -3,10 +3,8 @@ use Rattle.std.proofs.Common.{◌≡◌, ◌≢◌, ℕ, List, [], ◌∷◌, �
 use Rattle.std.specs.Prelude.{map, ◌⊎◌, Ok}
 use Rattle.std.proofs.Math.Logic.{∥∥₁_elim}
 use Rattle.std.proofs.lemmas.Grind.{flat_map-append}
-use Rattle.std.specs.Coded.{Coded, Coded-set, coded×, coded_ℕ, coded_list, coded_option}
+use Rattle.std.specs.Coded.{Coded-set}
 use Rattle.std.specs.FinMap as finite
-use Rattle.std.specs.FinMap.{code}
-use Rattle.model.specs.contracts.value.Value as value_type
 use Rattle.model.specs.declared.item.Item.{Item}
 use Rattle.model.specs.Rows.{Rows, Schema, IsValid, keys_of}
 use Rattle.model.specs.Effect.{serial}
@@ -32,9 +30,10 @@ use Rattle.model.specs.Beginning.{last_end}
 use Rattle.run.specs.Devices.{DeviceState}
 use Rattle.run.specs.Progress.{Progress, Leads, start_progress}
 use Rattle.model.specs.Accepted.{AreAccepted}
-use Rattle.world.specs.CallLemmas.{committed_is_serial}
-use Rattle.world.specs.World.{Opened, Past, Entry, World, starting, entry_of, changes_in}
-use Rattle.world.specs.Steps.{Reaches}
+use Rattle.world.specs.World.{Opened, Past, Entry, World, entry_of, changes_in}
+use Rattle.world_parts.specs.Led.{IsLed}
+use Rattle.world_parts.specs.LedLemmas.{rows_code}
+use Rattle.world_parts.specs.Sound.{IsSound}
 use Rattle.run_laws.proofs.Begun.{IsSane, begun, begun_in, if_direct, Moves}
 use Rattle.run_laws.specs.Statements.{WorkersAlterNothing, CleanIsWithoutThreads}
 use Rattle.run_laws.specs.Runs.{IsAtMostOne, IsCommitOf, CommitsNext}
@@ -75,13 +74,11 @@ changes_told (p ∷ line) =
 
 -- ---- the tables
 
-rows_code : Coded Rows
-rows_code = code (coded× coded_ℕ (coded_list value_type.the_row.coded)) (coded_list (coded_option value_type.the_row.coded))
-
-pub committed_serial : (schema : Schema) (rows : Rows) (w : World) → IsValid schema rows
-    → ∥ Reaches schema (starting rows) w ∥₁ → w.committed ≡ serial schema rows (changes_in w.line)
-committed_serial schema rows w valid reached =
-    ∥∥₁_elim reached (Coded-set rows_code _ _) (λ (is : Reaches schema (starting rows) w). (committed_is_serial schema rows w (valid, is)).1)
+pub committed_serial : (schema : Schema) (rows : Rows) (w : World) → IsValid schema rows → IsLed schema rows w
+    → w.committed ≡ serial schema rows (changes_in w.line)
+committed_serial schema rows w valid led =
+    ∥∥₁_elim (led.sound valid) (Coded-set rows_code _ _) (λ (is : IsSound schema w).
+    is.fine.serial_commits ∙ ap (λ r. serial schema r (changes_in w.line)) led.starts)
 
 module _ (g : Setting) (rows : Rows) (old new : DeviceState) (o : Outcome) (run : IsThreadedRun g rows old new o) where
   pub run_commits : map entry_in o.journal.items ≡ commits run.part.progress.state
@@ -94,7 +91,7 @@ module _ (g : Setting) (rows : Rows) (old new : DeviceState) (o : Outcome) (run 
   pub run_tables : IsValid (schema_of g) rows
       → o.tables.rows ≡ serial (schema_of g) rows (changes_of_entries (map entry_in o.journal.items))
   run_tables valid =
-      run.left.tables ∙ committed_serial (schema_of g) rows run.world valid run.is_world.reached
+      run.left.tables ∙ committed_serial (schema_of g) rows run.world valid run.is_world.led
       ∙ ap (serial (schema_of g) rows) (changes_told run.world.line ∙ ap changes_of_entries (sym run.left.entries))
 
   -- the changes of the world's commits are those of the journal
@@ -104,7 +101,7 @@ module _ (g : Setting) (rows : Rows) (old new : DeviceState) (o : Outcome) (run 
   pub run_clear : IsValid (schema_of g) rows
       → AreAccepted (schema_of g) rows (changes_of_entries (map entry_in o.journal.items))
   run_clear valid =
-      subst (AreAccepted (schema_of g) rows) run_changes (commits_clear (schema_of g) rows run.world valid run.is_world.reached)
+      subst (AreAccepted (schema_of g) rows) run_changes (commits_clear (schema_of g) rows run.world valid run.is_world.led)
 
 -- ---- sane states
 

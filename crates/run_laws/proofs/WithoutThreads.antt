@@ -188,7 +188,7 @@ module _ (g : Setting) (rows : Rows) (s : State) (rest : List CopyItem) (w : Wor
 
   committed : w.committed ≡ serial schema rows past
   committed =
-      committed_serial schema rows w valid is_world.reached ∙ ap (λ l. serial schema rows (changes_in l)) line
+      committed_serial schema rows w valid is_world.led ∙ ap (λ l. serial schema rows (changes_in l)) line
 
   -- behind a commit none is begun
   none_after : (payload : List ℕ) (xid : ℕ) (by : IsCommitOf g s payload xid) → begun by.state ≡ None
@@ -229,9 +229,9 @@ module _ (g : Setting) (rows : Rows) (s : State) (rest : List CopyItem) (w : Wor
     clear_before : AreAccepted schema rows before
     clear_before =
         accepted_append schema rows past (work xid transaction)
-        (subst (λ l. AreAccepted schema rows (changes_in l)) line (commits_clear schema rows w valid is_world.reached))
+        (subst (λ l. AreAccepted schema rows (changes_in l)) line (commits_clear schema rows w valid is_world.led))
         (subst (λ r. AreAccepted schema r (work xid transaction)) committed
-        (open_clear schema rows w valid is_world.reached xid transaction present))
+        (open_clear schema rows w valid is_world.led xid transaction present))
 
     clashes : (cause : ClashCause) → outcome schema (own_rows schema w xid transaction) c ≡ Clashes cause
         → ClashesIn schema rows (with_items xid items) (clash_of cause)

@@ -14,8 +14,8 @@ use Rattle.model.specs.Rows.{Rows}
 use Rattle.frames.specs.declared.item.CopyItem.{CopyItem}
 use Rattle.session.specs.State.{Spooled, Open, State, Setting}
 use Rattle.run.specs.Cause.{schema_of}
-use Rattle.world.specs.World.{Opened, World, starting}
-use Rattle.world.specs.Steps.{Reaches}
+use Rattle.world.specs.World.{Opened, World}
+use Rattle.world_parts.specs.Led.{IsLed}
 use Rattle.run_laws.specs.Threads.{IsWork, done_by_commit, Does}
 
 -- the items that were sent to a transaction, and those that are still to be sent, as there was no
@@ -48,11 +48,11 @@ IsAgreed g s rest xid (Some o) None None = o.way ≡ Spooled
 IsAgreed g s rest xid (Some o) (Some outbox) (Some done) = InStep g s rest xid o outbox done
 IsAgreed g s rest xid _ _ _ = ⊥
 
--- Calls reach the world from these rows, its commits are those of the state, and so it is with each
--- transaction.
+-- Each part of the world is reached by parts of calls from these rows, its commits are those of the
+-- state, and so it is with each transaction.
 pub record AreInStep (g : Setting) (rows : Rows) (s : State) (rest : List CopyItem)
     (outboxes : ℕ → Option Outbox) (w : World) : Type 0 where
-  pub reached : ∥ Reaches (schema_of g) (starting rows) w ∥₁
+  pub led : IsLed (schema_of g) rows w
   pub line : w.line ≡ map done_by_commit s.past
   pub agree : (xid : ℕ)
       → IsAgreed g s rest xid (get s.transactions xid) (outboxes xid) (get w.opened xid)

@@ -20,6 +20,7 @@ use Rattle.run.specs.declared.end.End.TheVariants as ends
 use Rattle.run.specs.declared.outcome.Outcome.{Outcome}
 use Rattle.world.specs.Steps.{Reaches, Closes, IsStuck}
 use Rattle.world.specs.World.{Opened, ByClash, World, starting, journal}
+use Rattle.world_parts.specs.Led.{IsLed}
 use Rattle.run_laws.specs.Leading.{Outbox, AreInStep, AreCounts}
 use Rattle.run_laws.specs.Runs.{CommitsNext, LeavesWorld, IsAtMostOne}
 use Rattle.run_laws.specs.Threads.{IsWorldOf, AreBytes}
@@ -43,13 +44,13 @@ ThreadedIsSerial =
     × AreAccepted (schema_of g) rows (changes_of_entries (map entry_in o.journal.items))
     × (o.position ≡ last_end (commit_ends run.part.progress.state.past))
 
--- what was open at its end has left nothing: calls reach a world in which none is open any more,
--- and the run leaves what closing that world gives
+-- what was open at its end has left nothing: there is a world in which none is open any more, each
+-- part of which is reached by parts of calls, and the run leaves what closing that world gives
 abbrev pub OpenLeavesNothing : Type 0
 OpenLeavesNothing =
     (g : Setting) (rows : Rows) (old new : DeviceState) (o : Outcome)
     (run : IsThreadedRun g rows old new o)
-    → (closed : World) × ∥ Reaches (schema_of g) (starting rows) closed ∥₁
+    → (closed : World) × IsLed (schema_of g) rows closed
     × Closes closed o.tables.rows (journal closed) × LeavesWorld o closed
 
 -- the same items lead to the same commits and the same status updates, however many workers there
@@ -97,12 +98,13 @@ OneIsOpenWithoutWorkers =
 
 -- ---- a run without threads: one with no workers that ends at its first cause
 
--- it is a run with no workers that handled the same items
+-- it is a run with no workers that handled the same items, and calls reach its world
 abbrev pub RunIsWithoutWorkers : Type 0
 RunIsWithoutWorkers =
     (g : Setting) (rows : Rows) (old new : DeviceState) (o : Outcome) (run : IsRun g rows old new o)
     → g.workers ≡ 0
     → (same : IsThreadedRun g rows old new o) × (same.part.handled ≡ run.part.handled)
+    × ∥ Reaches (schema_of g) (starting rows) same.world ∥₁
 
 -- it ends at its first cause
 abbrev pub EndsAtFirstCause : Type 0
@@ -122,12 +124,13 @@ FirstCauseIsWithoutThreads =
 -- ---- a leader and its workers
 
 -- whatever a leader and its workers do, and in whatever order: at each moment all transactions are
--- in step with the world, which is one of the state
+-- in step with the world, which is one of the state; where all that they do are calls, these reach it
 abbrev pub EachMomentIsInStep : Type 0
 EachMomentIsInStep =
     (g : Setting) (rows : Rows) (items : List CopyItem) (a : Moment)
     → Turns g (start_moment rows items) a
     → IsInStep g rows a × IsWorldOf g rows a.state a.rest a.world
+    × ∥ Reaches (schema_of g) (starting rows) a.world ∥₁
 
 -- where a leader's transactions are in step with the world, that is one of its state
 abbrev pub InStepIsWorld : Type 0

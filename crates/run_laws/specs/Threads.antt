@@ -14,8 +14,8 @@ use Rattle.frames.specs.declared.item.CopyItem.TheVariants.{Wal, Keepalive, Done
 use Rattle.session.specs.Sized.{SizedItems, item_of}
 use Rattle.session.specs.State.{Way, Direct, Worker, Spooled, Open, Committed, State, Setting}
 use Rattle.run.specs.Cause.{schema_of, IsNext}
-use Rattle.world.specs.World.{Opened, Past, World, starting}
-use Rattle.world.specs.Steps.{Reaches}
+use Rattle.world.specs.World.{Opened, Past, World}
+use Rattle.world_parts.specs.Led.{IsLed}
 use Rattle.run_laws.specs.Runs.{DoesAtCommit}
 
 -- What an open transaction has to do: its items, rollbacks among them. One that is spooled has nothing
@@ -48,12 +48,12 @@ pub record DoesWork (g : Setting) (s : State) (rest : List CopyItem) (xid : ℕ)
   pub is_work : IsWork g s rest xid o.way o.items work
   pub does : Does done work
 
--- Calls reach the world from these rows; its commits are those of the state, in order; each of its
--- open transactions is open in the state, and does its work. That there are such calls is all that
--- a lock keeps of them, and not which.
+-- Each part of the world is reached by parts of calls from these rows; its commits are those of the
+-- state, in order; each of its open transactions is open in the state, and does its work. That there
+-- are such calls is all that locks keep of them, and not which.
 pub record IsWorldOf (g : Setting) (rows : Rows) (s : State) (rest : List CopyItem) (w : World)
     : Type 0 where
-  pub reached : ∥ Reaches (schema_of g) (starting rows) w ∥₁
+  pub led : IsLed (schema_of g) rows w
   pub line : w.line ≡ map done_by_commit s.past
   pub opened : (xid : ℕ) (done : Opened) → get w.opened xid ≡ Some done
       → (o : Open) × (get s.transactions xid ≡ Some o) × DoesWork g s rest xid o done

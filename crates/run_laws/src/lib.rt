@@ -9,14 +9,14 @@
 // `proofs/WorldAt`).
 //
 // In a run with workers several transactions are open at once, each with a beginning of its work
-// done. So what such a run may do is said by a world alone: any that calls reach, with the commits
-// of the state, and a cause of the end at it. Its promise (`IsThreadedRun`) shares items, what they
-// lead to and status updates with the run without threads, and its laws say what they have in
-// common. The run without threads is just one with no workers that ends at its first cause: the
-// stream gives none at a shorter beginning of the items, and where a change of the transaction that
-// was begun has clashed, the run ends by that. What a leader keeps of its transactions, so that it
-// can show all this at its end, stands here too, with a lemma for each thing that it or a worker
-// does (`proofs/Steps`, `proofs/Books`).
+// done. So what such a run may do is said by a world alone: any of which each part is reached by
+// parts of calls, with the commits of the state, and a cause of the end at it. Its promise
+// (`IsThreadedRun`) shares items, what they lead to and status updates with the run without threads,
+// and its laws say what they have in common. The run without threads is just one with no workers
+// that ends at its first cause: the stream gives none at a shorter beginning of the items, and where
+// a change of the transaction that was begun has clashed, the run ends by that. What a leader keeps
+// of its transactions, so that it can show all this at its end, stands here too, with a lemma for
+// each thing that it or a worker does (`proofs/Steps`, `proofs/Books`).
 //
 //   specs/Runs          a run in the words of a world
 //   specs/Threads       the world of a state with workers
@@ -27,5 +27,5 @@
 //   specs/Statements    the laws as statements, which `laws` promises
 //
 // It has no code but the laws, and stands on `session` for the table, on `run` for items and
-// what they lead to, and on `world` for calls.
+// what they lead to, on `world` for calls, and on `world_parts` for worlds by their parts.
 pub mod laws;

@@ -4,24 +4,19 @@
 --     positions_seen      where the log goes on behind the first so many of these, for each number of them
 --     SeesMore      it has seen all that it had seen, and maybe more
 --     ReadsTable, ReadsTables      the rows of a table after all commits seen; those of several
---     rows_in      the rows of a table that were read
 --     ReadsAt      the rows of a table after the commits seen up to a position
 --     IsRefused, IsRefusedOf, IsRefusedAt      why a read was refused, and what has been seen then
-use Rattle.std.proofs.Common.{Vec, Global}
-use Rattle.std.specs.Prelude.{◌≡◌, ℕ, ◌<◌, ◌≤◌, List, ◌∷◌, All, Some, None, Ok, length, map, slice_get}
+use Rattle.std.specs.Prelude.{◌≡◌, ℕ, ◌<◌, ◌≤◌, List, All, length, map}
 use Rattle.std.specs.List.{Contains}
-use Rattle.std.specs.List.Sorted.{IsStrictlyIncreasing}
-use Rattle.std.specs.FinMap as finite
 use Rattle.model.specs.declared.row.Row.{Row}
 use Rattle.model.specs.Rows.{Rows, Schema}
 use Rattle.model.specs.TableRows.{rows_of_table}
-use Rattle.model.specs.Beginning.{Begins}
 use Rattle.tokens.specs.Half.{Half}
 use Rattle.world.specs.World.{Past, World}
-use Rattle.world.specs.Steps.{Fault, ReadsAfter}
 use Rattle.engine.specs.declared.events.LineEvent.{LineEvent}
-use Rattle.engine.specs.Events.{commits_in, ends_in, world_of}
+use Rattle.engine.specs.Events.{commits_in}
 use Rattle.origin.specs.Commits.{LoadedCommits}
+use Rattle.table_locks.specs.Reading.{seen_world, SeesMore as LineSeesMore, positions_seen as line_positions, ReadsAt as LineReadsAt}
 use Rattle.snapshot.specs.declared.fault.ReadFault.{ReadFault}
 use Rattle.snapshot.specs.declared.fault.ReadFault.TheVariants.{UnknownTable, PositionUnknown, OutOfMemory}
 
@@ -41,19 +36,17 @@ commits_seen s = commits_in s.line.list
 
 -- the world of these commits, with no transaction open
 abbrev pub world_seen : Sight → World
-world_seen s = world_of s.schema s.start s.line.list finite.empty None
+world_seen s = seen_world s.schema s.start s.line.list
 
 -- Where the log goes on behind the first so many of these, for each number of them: 0 before the first, else where the
 -- last of them ends.
 abbrev pub positions_seen : Sight → List ℕ
-positions_seen s = 0 ∷ ends_in s.line.list
+positions_seen s = line_positions s.line.list
 
 -- It has seen all that it had seen, and maybe more, and each commit ends above the ones before it. Of the published
 -- commits it has seen the same.
 pub record SeesMore (old new : Sight) : Type 0 where
-  pub name : new.line.name ≡ old.line.name
-  pub begins : Begins old.line.list new.line.list
-  pub rising : IsStrictlyIncreasing (positions_seen new)
+  pub line : LineSeesMore old.line.name old.line new.line
   pub beside : new ≡ record old { line = new.line }
 
 -- ---- answers
@@ -62,18 +55,13 @@ pub record SeesMore (old new : Sight) : Type 0 where
 abbrev pub ReadsTable : Sight → ℕ → List Row → Type 0
 ReadsTable s table rows = rows ≡ rows_of_table (world_seen s).committed table
 
--- the rows of a table that were read
-abbrev pub rows_in : Vec Row Global → List Row
-rows_in rows = rows.items
-
 -- those of several, in the order in which they are named
 abbrev pub ReadsTables : Sight → List ℕ → List (List Row) → Type 0
 ReadsTables s tables rows = rows ≡ map (rows_of_table (world_seen s).committed) tables
 
 -- the rows of a table after the commits seen up to a position, in key order
 abbrev pub ReadsAt : Sight → ℕ → ℕ → List Row → Type 0
-ReadsAt s table position rows =
-    (count : ℕ) × (slice_get (positions_seen s) count ≡ Some position) × ReadsAfter {E = Fault} s.schema (world_seen s) table count (Ok rows)
+ReadsAt s table position rows = LineReadsAt s.schema s.start s.line.list table position rows
 
 -- The table isn't there, or memory was refused; nothing more was seen.
 abbrev pub IsRefused : Sight → Sight → ℕ → ReadFault → Type 0

@@ -1,4 +1,5 @@
 // What a read is refused for.
+use model::OutOfMemory;
 use thiserror::Error;
 
 /// Why a read is refused. Where several of these apply, the first of them is answered.
@@ -13,4 +14,15 @@ pub enum ReadFault {
     /// The system had no memory for the rows.
     #[error("out of memory")]
     OutOfMemory,
+}
+
+impl From<OutOfMemory> for ReadFault {
+    ghost use Rattle.std.specs.Prelude.{◌≡◌};
+    ghost use Rattle.snapshot.specs.declared.fault.ReadFault.TheVariants.{OutOfMemory as NoMemory};
+
+    ghost from_gives = { λ _ e. e ≡ NoMemory };
+
+    fn from(_e: OutOfMemory) -> ReadFault {
+        ReadFault::OutOfMemory
+    }
 }

@@ -9,22 +9,22 @@ ghost use Rattle.model.specs.Beginning.{Begins};
 ghost use Rattle.snapshot.specs.declared.fault.ReadFault.TheVariants.{UnknownTable};
 ghost use Rattle.snapshot.specs.Reads.{world_seen, SeesMore, ReadsTable, ReadsAt, IsRefused, IsRefusedAt};
 
-use crate::entries::count_up_to;
 use crate::fault::ReadFault;
-use engine::{Seen, SharedStore, StoreNames};
 use model::{Key, Lsn, Row, TableId};
 use origin::{Loader, Origin, Position};
 use std::alloc::Global;
 use std::marker::Model;
-use std::sync::{Mutex, Wait};
+use std::sync::Wait;
+use table_locks::{Seen, Store, StoreNames};
 
-/// Reads the committed rows of a store that others work on, and the position that was published.
+/// Reads the committed rows of a store that others work on, and the position that was published. Each
+/// read takes the locks of its tables, and then the journal's.
 ///
 /// A clause sees what it knows (`Sight`): the tables' keys and start rows, what it has seen of the
 /// store's line, and the commits that it has seen published.
 #[derive(Debug, Drop)]
 pub struct Reader<'a, N: StoreNames> {
-    store: &'a Mutex<SharedStore<N>>,
+    store: &'a Store<N>,
     seen: Seen,
     origin: &'a Origin,
     loader: Loader,
@@ -48,12 +48,7 @@ impl<'a, N: StoreNames> Model for Reader<'a, N> {
 
 impl<'a, N: StoreNames> Reader<'a, N> {
     /// Whoever has seen this much of a store, and of what was published.
-    pub fn new(
-        store: &'a Mutex<SharedStore<N>>,
-        seen: Seen,
-        origin: &'a Origin,
-        loader: Loader,
-    ) -> Reader<'a, N>
+    pub fn new(store: &'a Store<N>, seen: Seen, origin: &'a Origin, loader: Loader) -> Reader<'a, N>
         requires seen { seen.name ≡ N.line }
         requires loader { loader.origin ≡ origin.now }
         ensures { result ≡ record { schema = N.schema; start = N.start; line = seen; published = loader } }
@@ -89,18 +84,12 @@ impl<'a, N: StoreNames> Reader<'a, N> {
         ensures seen { OnOk result (SeesMore self.old self.new) }
         ensures published { self.new.published ≡ self.old.published }
     {
-        let mut store = self.store.lock(rt);
-        store.recall_invariant();
-        check_table(table, store.table_count())?;
-        let Ok(row) = store.committed(table, key) else {
-            return Err(ReadFault::OutOfMemory);
-        };
-        store.look(&mut self.seen);
-        Ok(row)
+        check_table(table, self.store.table_count())?;
+        Ok(self.store.get(rt, &mut self.seen, table, key)?)
     }
 
     /// The committed rows of a table in key order, as copies. It costs one walk of the table, and one of
-    /// what open transactions did, in any table, under the store's lock.
+    /// what open transactions did there, under the table's lock.
     pub fn rows<R: Wait>(
         &mut self,
         rt: &R,
@@ -113,20 +102,15 @@ impl<'a, N: StoreNames> Reader<'a, N> {
         ensures refused { IfErr result (λ fault. IsRefused self.old self.new table fault) }
         ensures published { self.new.published ≡ self.old.published }
     {
-        let mut store = self.store.lock(rt);
-        store.recall_invariant();
-        check_table(table, store.table_count())?;
-        let Ok(rows) = store.committed_rows(alloc, table) else {
-            return Err(ReadFault::OutOfMemory);
-        };
-        store.look(&mut self.seen);
-        Ok(rows)
+        check_table(table, self.store.table_count())?;
+        Ok(self.store.rows(rt, alloc, &mut self.seen, table)?)
     }
 
     /// The rows of a table after the commits up to the one that ends at this position, in key order, as
-    /// copies; at position 0 those before the first commit. What stood before the later commits takes the
-    /// place of what they changed: beside what `rows` costs it is their entries and changes, under the
-    /// store's lock, and in memory each key that they changed.
+    /// copies; at position 0 those before the first commit. What stood before the table's later commits
+    /// takes the place of what they changed: beside what `rows` costs it is their changes, under the
+    /// table's lock, and in memory each key that they changed; under the journal's the entries behind the
+    /// position are counted.
     pub fn rows_at<R: Wait>(
         &mut self,
         rt: &R,
@@ -140,22 +124,15 @@ impl<'a, N: StoreNames> Reader<'a, N> {
         ensures refused { IfErr result (λ fault. IsRefusedAt self.old self.new table position fault) }
         ensures published { self.new.published ≡ self.old.published }
     {
-        let mut store = self.store.lock(rt);
-        store.recall_invariant();
-        check_table(table, store.table_count())?;
-        let Some(count) = count_up_to(store.journal(), position) else {
-            store.look(&mut self.seen);
-            return Err(ReadFault::PositionUnknown);
-        };
-        let Ok(rows) = store.rows_after(alloc, table, count) else {
-            return Err(ReadFault::OutOfMemory);
-        };
-        store.look(&mut self.seen);
-        Ok(rows)
+        check_table(table, self.store.table_count())?;
+        let found = self
+            .store
+            .rows_at(rt, alloc, &mut self.seen, table, position)?;
+        found.ok_or(ReadFault::PositionUnknown)
     }
 
     /// The position that was published last: how many commits, and where the last of them ends; and,
-    /// before the first, the transaction that is to be skipped. It doesn't take the store's lock.
+    /// before the first, the transaction that is to be skipped. It takes no lock of the store.
     pub fn position<R: Wait>(&mut self, rt: &R) -> Position
         ensures position { result ≡ position_after self.new.published.skip self.new.published.ends }
         ensures skip { self.new.published.skip ≡ self.old.published.skip }

@@ -6,7 +6,7 @@ ghost use Rattle.engine.specs.Engine.{entry_in};
 use engine::Entry;
 use model::OutOfMemory;
 
-/// Takes entries of a journal, one after another. It copies what it wants: meanwhile the store is
+/// Takes entries of a journal, one after another. It copies what it wants: meanwhile the journal is
 /// locked.
 pub trait TakeEntries {
     /// The entries that it took.

@@ -2,8 +2,8 @@
 ghost use Rattle.std.specs.Prelude.{◌≡◌};
 
 use crate::reader::Reader;
-use engine::StoreNames;
 use std::sync::Wait;
+use table_locks::StoreNames;
 
 /// Somebody who reads while a run goes on.
 ///

@@ -1,2 +1,3 @@
 mod OutboxLists
 mod Refusals
+mod Trying

@@ -5,29 +5,28 @@
 --     IsInStep      what the type of a job keeps
 --     GoesOn      the same transaction of the same worker, with more done
 --     HasNext, HasDone      an item of the transaction is taken, and not done; it is done
---     IsMet, EndsWith      a world that calls lead to; the last event of a transaction
---     WasRefused      why an item was refused, by its transaction's events and some such world
---     Shows, IsEndedBy      why a worker came back, as its job shows it, and as some such world shows it
+--     EndsWith      the last event of a transaction
+--     WasRefused      why an item was refused
+--     Shows, IsEndedBy      why a worker came back, as its job shows it, and as the store answered it
 --     Wanted, Comes      the events of a transaction once an item was tried
 --     ComesTo      what the transaction has done once it was tried until it was done or refused
 use Rattle.std.specs.Prelude.{◌≡◌, ◌≢◌, ℕ, true, List, [], ◌∷◌, ◌++◌, Option, Some, None, IsSome, All, MatchOption, Result, Ok, Err}
 use Rattle.atomic_table.specs.Seated.{TableId}
-use Rattle.std.specs.FinMap.{get}
 use Rattle.model.specs.declared.change.Change as change_type
-use Rattle.model.specs.Effect.{ClashCause}
 use Rattle.model.specs.Rows.{Rows, Schema}
 use Rattle.model.specs.declared.item.Item.{Item}
 use Rattle.model.specs.declared.item.Item.TheVariants.{Change, Last}
 use Rattle.model.specs.Beginning.{Begins}
-use Rattle.tokens.specs.Lists.{OpenList}
 use Rattle.ring.specs.Ends.{Taking}
-use Rattle.world.specs.World.{Opened, ByClash, World, starting}
-use Rattle.world.specs.Steps.{Reaches}
+use Rattle.change.specs.declared.outcome.Clash as clash_type
+use Rattle.world.specs.World.{Opened}
 use Rattle.engine.specs.declared.events.Event.{Event}
 use Rattle.engine.specs.declared.events.Event.TheVariants.{Done, Wants, FoundStopped, FoundNoMemory}
 use Rattle.engine.specs.Events.{opened_by}
 use Rattle.live_tables.specs.declared.answers.EngineFault.{EngineFault}
 use Rattle.live_tables.specs.declared.answers.EngineFault.TheVariants.{AlreadyOpen, TooManyOpen, Clash as ClashFault, Stopped as StoppedFault, OutOfMemory as NoMemory}
+use Rattle.parted_store.specs.Lent.{OpenTicket}
+use Rattle.table_locks.specs.Clashing.{WasClash}
 use Rattle.worker.specs.declared.ended.Ended.{Ended}
 use Rattle.worker.specs.declared.ended.Ended.TheVariants.{Last as AtLast, Doomed, Clashed, Stopped, OutOfMemory}
 use Rattle.worker.specs.declared.ended.Tried.{Tried}
@@ -45,8 +44,8 @@ pub record Working : Type 0 where
   pub taker : Taking Item
 
 -- what it knows, by worker, ticket and ring
-abbrev pub working : ℕ → OpenList Event → Taking Item → Working
-working its_worker ticket its_taker = record { worker = its_worker; xid = ticket.number; events = ticket.list; taker = its_taker }
+abbrev pub working : ℕ → OpenTicket → Taking Item → Working
+working its_worker ticket its_taker = record { worker = its_worker; xid = ticket.number; events = ticket.events; taker = its_taker }
 
 -- the items that its transaction has done
 abbrev pub done_in : Working → List Item
@@ -85,28 +84,20 @@ HasNext j = (item : Item) × (j.taker.taken ≡ Some item) × (item ≢ Last)
 abbrev pub HasDone : Working → Working → Type 0
 HasDone old new = (item : Item) × (old.taker.taken ≡ Some item) × (done_in new ≡ done_in old ++ item ∷ [])
 
--- A world that calls lead to from where the store began, with these keys and rows, in which the transaction is open with
--- just these events.
-pub record IsMet (keys : Schema) (first : Rows) (xid : ℕ) (events : List Event) (w : World) : Type 0 where
-  pub reached : ∥ Reaches keys (starting first) w ∥₁
-  pub open_one : get w.opened xid ≡ Some (opened_by events)
-
 -- the last event of a transaction
 abbrev pub EndsWith : Event → List Event → Type 0
 EndsWith e events = (before : List Event) × (events ≡ before ++ e ∷ [])
 
--- Why an item of a transaction was refused, by the last event of it and some world that calls lead to: that was stopped,
--- by the transaction's change that it tells as wanted, or by whatever before; it was not, where memory was refused.
+-- Why an item of a transaction was refused. A change of it clashed, which it tells as wanted: parts of calls lead to a part of
+-- the change's table in which it clashes so. Or the last event of the transaction is that the store was found stopped, or that
+-- memory was refused, which calls of the store alone list.
 abbrev pub WasRefused : Schema → Rows → Ended → ℕ → List Event → Type 0
 WasRefused keys first AtLast xid events = Unit {0}
 WasRefused keys first Doomed xid events = Unit {0}
 WasRefused keys first Clashed xid events =
-    (w : World) × IsMet keys first xid events w × (sub : ℕ) × (c : change_type.Change) × (cause : ClashCause) ×
-    ((opened_by events).wants ≡ Some (sub, c)) × (w.stopped ≡ Some (ByClash xid c cause))
-WasRefused keys first Stopped xid events =
-    EndsWith FoundStopped events × (w : World) × IsMet keys first xid events w × IsSome w.stopped
-WasRefused keys first OutOfMemory xid events =
-    EndsWith FoundNoMemory events × (w : World) × IsMet keys first xid events w × (w.stopped ≡ None)
+    (sub : ℕ) × (c : change_type.Change) × (clash : clash_type.Clash) × ((opened_by events).wants ≡ Some (sub, c)) × WasClash keys first xid c clash
+WasRefused keys first Stopped xid events = EndsWith FoundStopped events
+WasRefused keys first OutOfMemory xid events = EndsWith FoundNoMemory events
 
 -- why a worker came back, as its job then shows it
 abbrev pub Shows : Ended → Working → Type 0
@@ -116,7 +107,7 @@ Shows Clashed j = HasNext j
 Shows Stopped j = HasNext j
 Shows OutOfMemory j = HasNext j
 
--- why a worker came back: the job shows it, and some world that calls lead to is so
+-- why a worker came back: the job shows it, and the store answered so
 abbrev pub IsEndedBy : Schema → Rows → Ended → Working → Type 0
 IsEndedBy keys first ended j = Shows ended j × WasRefused keys first ended j.xid j.events
 

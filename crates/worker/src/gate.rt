@@ -18,8 +18,8 @@ pub trait Gate {
     /// The worker of a transaction came to a point. It holds no lock meanwhile.
     fn pass(&mut self, xid: Xid, at: Point);
 
-    /// A change of the transaction is held by another one, and the worker goes to wait for it. It may
-    /// be called under the store's lock, so it must not wait for anything that takes that lock.
+    /// A change of the transaction is held by another one, and the worker goes to wait for it. It
+    /// holds no lock meanwhile.
     fn held(&mut self, xid: Xid) {
         let _ = xid;
     }

@@ -3,9 +3,9 @@ ghost use Rattle.std.specs.Prelude.{◌≡◌, All, length, [], ◌∷◌};
 ghost use Rattle.model.specs.Named.{NamesTables};
 ghost use Rattle.model.specs.Survivors.{changes_of};
 
-use engine::StoreNames;
 use model::Item;
 use std::marker::{Model, PhantomData};
+use table_locks::StoreNames;
 
 /// An item whose change, if it is one, names tables of the store alone. A clause sees the item.
 #[derive(Debug, Drop)]

@@ -1,7 +1,6 @@
 // What a worker has of its transaction.
 ghost use Rattle.std.specs.Prelude.{◌≡◌, ◌≢◌, [], None, Some, IfErr, OnOk, OnErr, MatchBool};
 ghost use Rattle.model.specs.declared.item.Item.TheVariants.{Last};
-ghost use Rattle.tokens.specs.Lists.{open_list};
 ghost use Rattle.engine.specs.Events.{opened_by};
 ghost use Rattle.worker.specs.Working.{working, done_in, IsInStep, GoesOn, HasNext, HasDone, IsEndedBy};
 
@@ -10,12 +9,12 @@ use crate::gate::Gate;
 use crate::item::WorkItem;
 use crate::names::RingNames;
 use crate::tries::try_until_done;
-use engine::{SharedStore, StoreNames, Ticket};
 use model::{Item, Xid};
 use ring::Taker;
 use std::alloc::Global;
 use std::marker::{Model, PhantomData};
-use std::sync::{Condvar, Mutex, Wait};
+use std::sync::Wait;
+use table_locks::{Store, StoreNames, Ticket};
 
 /// A transaction's ticket, and the end of its worker's ring from which its items come.
 ///
@@ -24,7 +23,7 @@ use std::sync::{Condvar, Mutex, Wait};
 /// together knows which items are done and which are left.
 #[derive(Debug, Drop)]
 pub struct Job<N: StoreNames, L: RingNames> {
-    ticket: Ticket,
+    ticket: Ticket<N>,
     taker: Taker<WorkItem<N>>,
     worker: usize,
     of: PhantomData<L>,
@@ -32,21 +31,19 @@ pub struct Job<N: StoreNames, L: RingNames> {
 
 impl<N: StoreNames, L: RingNames> Model for Job<N, L> {
     ghost use Rattle.worker.specs.Working.{Working, working, IsInStep};
-    ghost use Rattle.std.specs.Prelude.{◌≡◌};
 
     ghost Value = { Working };
 
     ghost view = { λ j. working j.worker j.ticket j.taker };
 
-    ghost invariant = { λ j. (j.ticket.name ≡ N.tickets) × IsInStep (L.ring j.worker) (working j.worker j.ticket j.taker) };
+    ghost invariant = { λ j. IsInStep (L.ring j.worker) (working j.worker j.ticket j.taker) };
 }
 
 impl<N: StoreNames, L: RingNames> Job<N, L> {
     /// A job of a transaction that has done nothing yet, by a ring of which nothing is acknowledged.
-    pub fn new(ticket: Ticket, taker: Taker<WorkItem<N>>, worker: usize) -> Job<N, L>
-        requires belongs { ticket.name ≡ N.tickets }
+    pub fn new(ticket: Ticket<N>, taker: Taker<WorkItem<N>>, worker: usize) -> Job<N, L>
         requires ring { taker.ring ≡ L.ring worker }
-        requires first { opened_by ticket.list ≡ record { items = []; wants = None } }
+        requires first { opened_by ticket.events ≡ record { items = []; wants = None } }
         requires acked { taker.acked ≡ [] }
         ensures { result ≡ working worker ticket taker }
     {
@@ -59,8 +56,8 @@ impl<N: StoreNames, L: RingNames> Job<N, L> {
     }
 
     /// Ticket and ring end, with what the type kept of them.
-    pub fn split(self) -> (Ticket, Taker<WorkItem<N>>)
-        ensures ticket { result.0 ≡ open_list N.tickets self.xid self.events }
+    pub fn split(self) -> (Ticket<N>, Taker<WorkItem<N>>)
+        ensures ticket { (result.0.number ≡ self.xid) × (result.0.events ≡ self.events) }
         ensures taker { result.1 ≡ self.taker }
         ensures step { IsInStep (L.ring self.worker) self }
     {
@@ -114,8 +111,7 @@ impl<N: StoreNames, L: RingNames> Job<N, L> {
         &mut self,
         rt: &R,
         alloc: Global,
-        store: &Mutex<SharedStore<N>>,
-        changed: &Condvar,
+        store: &Store<N>,
         gate: &mut G,
     ) -> Result<(), Ended>
         requires { HasNext self.old }
@@ -124,15 +120,7 @@ impl<N: StoreNames, L: RingNames> Job<N, L> {
         ensures same { OnErr result (done_in self.new ≡ done_in self.old) }
         ensures err { IfErr result (λ ended. IsEndedBy N.schema N.start ended self.new) }
     {
-        try_until_done(
-            rt,
-            alloc,
-            store,
-            changed,
-            &mut self.ticket,
-            &mut self.taker,
-            gate,
-        )?;
+        try_until_done(rt, alloc, store, &mut self.ticket, &mut self.taker, gate)?;
         self.taker.ack();
         Ok(())
     }

@@ -8,7 +8,7 @@
 // change of it that waits or clashed is the first item after them. So when the job comes back and
 // both ends of the ring meet, the items done and those left are the items sent.
 //
-// `work` takes the store's lock for each item alone, and does so many items before it comes back that
+// `work` holds no lock of the store between calls, and does so many items before it comes back that
 //
 //   - the transaction's commit was read: `Last`, which is no item of it and is not acknowledged;
 //   - or it is told to give up, by the ring's doom;
@@ -17,18 +17,19 @@
 //
 // It says which, and the job shows it. An item that was not done stays the one taken.
 //
-// A worker waits for its next item, for a cell that another transaction holds, for the store's lock,
-// and where its gate holds it: who wakes it stands in docs/architecture.md, with the order of the
-// locks. A wake that comes early is kept: a ring keeps it, and at `changed` a worker looks for a doom
-// and tries its change under the lock that it gives back only as it waits. An ordinary item lets no
-// cell go, so it wakes nobody. A worker that goes to wait tells its gate first, so that the leader of
-// a run can look whether all wait.
+// A worker waits for its next item, for a cell that another transaction holds, for a lock of the
+// store in a call, and where its gate holds it: who wakes it stands in docs/architecture.md, with the
+// order of the locks. A wake that comes early is kept: a ring keeps it, and the store counts its
+// moves. Each release of holds, each stop and each doom counts one under the journal's lock and wakes
+// all that wait for one, and a worker reads the count before it looks for a doom and tries its change
+// again. An ordinary item lets no cell go, so it counts none. A worker that goes to wait tells its
+// gate first, so that the leader of a run can look whether all wait.
 //
 //   job        `Job`
 //   item       `WorkItem`, what goes through the ring
 //   gate       `Gate`, who is told how far a worker came
 //   progress   `work`, `work_on`
-//   tries      one item under the lock
+//   tries      one item in the store
 //   ended      why a worker came back
 //   outbox     `Outbox`, where the leader gives the items of a worker's transaction
 //   hidden     `wait_for_ever`, for what only a lock hides
@@ -36,8 +37,9 @@
 //              stand in the types of all of these
 //
 // `specs/Working` says what a job knows and what work makes of it, `specs/WorkingLemmas` what follows of
-// its items and events; `specs/Outbox` says what is known of an outbox. It stands on `engine` for the
-// store, on `ring` for the items, on `tokens` for what the leader knows of an outbox, and on `model`.
+// its items and events; `specs/Outbox` says what is known of an outbox. It stands on `table_locks` for
+// the store, on `ring` for the items, on `tokens` for what the leader knows of an outbox, and on
+// `model`.
 mod ended;
 mod gate;
 mod hidden;

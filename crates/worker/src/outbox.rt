@@ -21,13 +21,13 @@ ghost use Rattle.worker.specs.Outbox.{given_since, SendsOn, GoesOn, FindsNoRoom,
 use crate::hidden::wait_for_ever;
 use crate::item::WorkItem;
 use crate::names::OutboxNames;
-use engine::StoreNames;
 use model::{Item, OutOfMemory};
 use ring::{Ends, Full, Sender, Taker};
 use std::alloc::Global;
 use std::collections::VecDeque;
 use std::marker::{Brand, Model, PhantomData};
 use std::sync::{Mutex, MutexGuard, Wait};
+use table_locks::StoreNames;
 use tokens::{Items, Kept, Token, grow, grow_by};
 
 /// What the leader did with an outbox. Proofs alone know the list of it.

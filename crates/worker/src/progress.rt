@@ -6,36 +6,35 @@ use crate::ended::Ended;
 use crate::gate::{Gate, Point};
 use crate::job::Job;
 use crate::names::RingNames;
-use engine::{SharedStore, StoreNames};
 use std::alloc::Global;
-use std::sync::{Condvar, Mutex, Wait};
+use std::sync::Wait;
+use table_locks::{Store, StoreNames};
 
 /// Does the items of a job as they come, and gives the job back.
 pub fn work<N: StoreNames, L: RingNames, G: Gate, R: Wait>(
     rt: &R,
     alloc: Global,
-    store: &Mutex<SharedStore<N>>,
-    changed: &Condvar,
+    store: &Store<N>,
     mut job: Job<N, L>,
     gate: &mut G,
 ) -> Job<N, L>
     ensures goes_on { GoesOn job result }
     ensures ended { (ended : EndedBy) × IsEndedBy N.schema N.start ended result }
 {
-    work_on(rt, alloc, store, changed, &mut job, gate);
+    work_on(rt, alloc, store, &mut job, gate);
     job
 }
 
 /// Does the items of a job as they come: until the transaction's commit was read, it is told to give
 /// up, the store is stopped or memory is refused. It says which of these.
 ///
-/// The store's lock is taken for each item alone. Whoever commits or aborts a transaction of the
-/// store, stops it, or tells a worker to give up notifies all under that lock.
+/// Locks of the store are taken by its calls, one for each item, and none is held between them.
+/// Whoever tells a worker to give up counts a move of the store behind it (`tell_move`), since a
+/// worker that waits for a cell looks for it once something moved.
 pub fn work_on<N: StoreNames, L: RingNames, G: Gate, R: Wait>(
     rt: &R,
     alloc: Global,
-    store: &Mutex<SharedStore<N>>,
-    changed: &Condvar,
+    store: &Store<N>,
     job: &mut Job<N, L>,
     gate: &mut G,
 ) -> Ended
@@ -49,7 +48,7 @@ pub fn work_on<N: StoreNames, L: RingNames, G: Gate, R: Wait>(
             return ended;
         }
         gate.pass(xid, Point::Before(number));
-        match job.do_next(rt, alloc, store, changed, gate) {
+        match job.do_next(rt, alloc, store, gate) {
             Ok(()) => gate.pass(xid, Point::After(number)),
             Err(ended) => {
                 if ended == Ended::Clashed {

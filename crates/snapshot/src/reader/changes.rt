@@ -7,11 +7,11 @@ ghost use Rattle.snapshot.specs.Reads.{commits_seen, SeesMore};
 use crate::fault::ReadFault;
 use crate::reader::Reader;
 use crate::taking::{TakeEntries, give_behind};
-use engine::StoreNames;
 use std::sync::Wait;
+use table_locks::StoreNames;
 
 impl<'a, N: StoreNames> Reader<'a, N> {
-    /// Gives the entries behind the first so many commits, in order, while the store is locked: each
+    /// Gives the entries behind the first so many commits, in order, while the journal is locked: each
     /// with its changes that survived, and where its commit ends. Where memory is refused, it may have
     /// given some of them.
     pub fn changes_after<R: Wait, T: TakeEntries>(
@@ -25,12 +25,9 @@ impl<'a, N: StoreNames> Reader<'a, N> {
         ensures refused { IfErr result (λ fault. (fault ≡ OutOfMemory) × (self.new ≡ self.old)) }
         ensures published { self.new.published ≡ self.old.published }
     {
-        let mut store = self.store.lock(rt);
-        store.recall_invariant();
-        if give_behind(store.journal(), commits, into).is_err() {
-            return Err(ReadFault::OutOfMemory);
-        }
-        store.look(&mut self.seen);
+        let mut journal = self.store.lock_journal(rt);
+        give_behind(journal.entries(), commits, into)?;
+        journal.look(&mut self.seen);
         Ok(())
     }
 }

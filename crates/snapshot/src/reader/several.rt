@@ -1,21 +1,21 @@
 // The committed rows of several tables, all after the same commits.
 ghost use Rattle.std.specs.Prelude.{◌≡◌, ◌<◌, ◌≤◌, ℕ, All, IfOk, IfErr, OnOk, length, map};
 ghost use Rattle.std.specs.List.{Contains};
-ghost use Rattle.model.specs.TableRows.{rows_of_table};
+ghost use Rattle.table_locks.specs.Reading.{rows_in};
 ghost use Rattle.snapshot.specs.declared.fault.ReadFault.TheVariants.{UnknownTable};
-ghost use Rattle.snapshot.specs.Reads.{SeesMore, ReadsTables, IsRefusedOf, rows_in};
+ghost use Rattle.snapshot.specs.Reads.{SeesMore, ReadsTables, IsRefusedOf};
 
 use crate::fault::ReadFault;
 use crate::reader::{Reader, check_table};
-use engine::{SharedStore, StoreNames};
-use model::{OutOfMemory, Row, TableId};
+use model::{Row, TableId};
 use std::alloc::Global;
 use std::sync::Wait;
+use table_locks::StoreNames;
 
 impl<'a, N: StoreNames> Reader<'a, N> {
     /// The committed rows of these tables, all after the same commits: of each in key order, as copies, in the
     /// order in which the tables are named. None may be named, and one may be named twice. It costs what
-    /// `rows` costs of each, in one go under the store's lock.
+    /// `rows` costs of each, in one go under the locks of all of these.
     pub fn rows_of<R: Wait>(
         &mut self,
         rt: &R,
@@ -28,14 +28,8 @@ impl<'a, N: StoreNames> Reader<'a, N> {
         ensures refused { IfErr result (λ fault. IsRefusedOf self.old self.new tables.now fault) }
         ensures published { self.new.published ≡ self.old.published }
     {
-        let mut store = self.store.lock(rt);
-        store.recall_invariant();
-        check_tables(tables, store.table_count())?;
-        let Ok(rows) = read_each(&*store, alloc, tables) else {
-            return Err(ReadFault::OutOfMemory);
-        };
-        store.look(&mut self.seen);
-        Ok(rows)
+        check_tables(tables, self.store.table_count())?;
+        Ok(self.store.rows_of(rt, alloc, &mut self.seen, tables)?)
     }
 }
 
@@ -48,23 +42,4 @@ fn check_tables(tables: &[TableId], count: usize) -> Result<(), ReadFault>
         check_table(*table, count)?;
     }
     Ok(())
-}
-
-// The committed rows of each of the tables.
-fn read_each<N: StoreNames>(
-    store: &SharedStore<N>,
-    alloc: Global,
-    tables: &[TableId],
-) -> Result<Vec<Vec<Row>>, OutOfMemory>
-    requires { All (λ table. table < length N.schema) tables.now }
-    ensures { IfOk result (λ rows. map rows_in rows.items ≡ map (rows_of_table store.now.world.committed) tables.now) }
-{
-    let mut rows = Vec::new(alloc);
-    for table in tables {
-        let Ok(of_table) = store.committed_rows(alloc, *table) else {
-            return Err(OutOfMemory);
-        };
-        rows.push(of_table)?;
-    }
-    Ok(rows)
 }

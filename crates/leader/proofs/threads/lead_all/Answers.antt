@@ -1,4 +1,4 @@
-use Rattle.std.proofs.Common.{◌≡◌, ◌∷◌, None, length, sym, ap, subst, ◌∙◌}
+use Rattle.std.proofs.Common.{◌≡◌, ◌∷◌, ◌<◌, None, length, vec_capacity, sym, ap, subst, ◌∙◌}
 use Rattle.std.specs.Prelude.{List, All, map, option_map}
 use Rattle.std.proofs.lemmas.List.{length-map}
 use Rattle.std.proofs.lemmas.List.Elements.{All-map}
@@ -12,7 +12,7 @@ use Rattle.dispatch.specs.Standing.{Standing, own_by, goes_by, holds_in}
 use Rattle.leader.specs.Threads.{led}
 use Rattle.leader.specs.Ending.{HasFinished}
 use Rattle.run.specs.Settings.{setting_of}
-use Rattle.leader.proofs.Leaving.{has_left, refused_end}
+use Rattle.leader.proofs.Leaving.{has_left, over_places, refused_end}
 use Rattle.leader.proofs.threads.lead_all.Goals as goal
 
 -- what was published are the ends of the line's commits, which what is undone at the end leaves as they are
@@ -32,6 +32,18 @@ new-lead-requires-clause-free g c =
 
 pub lead_stream-proposed-requires : goal.lead_stream-proposed-requires
 lead_stream-proposed-requires g c = (setting_of c.args.workers c.args.config c.args.catalog.now, g.N.StoreNames.start, c.new-lead.ensures g.N.StoreNames.start)
+
+-- there is room for a ticket of each worker, and for the leader's own
+pub finish-end-requires-clause-room : goal.finish-end-requires-clause-room
+finish-end-requires-clause-room g c =
+    let s = setting_of c.args.workers c.args.config c.args.catalog.now in
+    let start = g.N.StoreNames.start in
+    let read = c.lead_stream-proposed in
+    let l = led read.new.lead.stream read.new.lead.transactions in
+    let left = c.into_left-left in
+    let places : length read.new.lead.transactions.workers ≡ c.args.workers = over_places s start c.args.devices.now read.new.devices l read.result (read.ensures.over s start (c.new-lead.ensures start)) in
+    let count : length left.result.0.workers.items ≡ c.args.workers = sym (length-map left.result.0.workers.items goes_by) ∙ ap length left.ensures.workers ∙ places in
+    subst (λ n. n < vec_capacity c.args.opening.tickets) (sym count) c.requires.room
 
 pub returns-clause-unread : goal.returns-clause-unread
 returns-clause-unread g c = λ told.

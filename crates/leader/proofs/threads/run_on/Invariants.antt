@@ -1,5 +1,5 @@
--- The names that the store and its line have.
+-- The name of the rows with which the run starts.
 use Rattle.leader.proofs.threads.run_on.Given as goal
 
-abbrev pub ghosts-run_store : goal.ghosts-run_store
-ghosts-run_store g a = record { tickets = a.store.tickets; line = a.store.line.name; schema = a.store.schema; start = a.store.world.start }
+abbrev pub ghosts-run_tables : goal.ghosts-run_tables
+ghosts-run_tables g a = record { start = a.start.rows }

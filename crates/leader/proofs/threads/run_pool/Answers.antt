@@ -20,13 +20,13 @@ returns-clause-run g c =
 -- where memory was refused nothing was read, and the line is that of a new store
 pub returns-in_default-clause-run : goal.returns-in_default-clause-run
 returns-in_default-clause-run g c =
-    none_run (setting_of (length c.args.mailboxes.items) c.args.config c.args.catalog.now) g.N.StoreNames.start g.N.StoreNames.schema c.args.devices.now c.meet.new.line.list c.shut_shared.result.0
-    c.shut_shared.ensures.shut c.requires.keys (ap (λ (h : Half LineEvent). h.list) c.meet.ensures.line ∙ c.requires.none) c.shut_shared.ensures.position c.shut_shared.ensures.end
+    none_run (setting_of (length c.args.mailboxes.items) c.args.config c.args.catalog.now) g.N.StoreNames.start g.N.StoreNames.schema c.args.devices.now c.make_watchers.new.line.list c.shut_shared.result.0
+    c.shut_shared.ensures.shut c.requires.keys (ap (λ (h : Half LineEvent). h.list) c.make_watchers.ensures.line ∙ c.requires.none) c.shut_shared.ensures.position c.shut_shared.ensures.end
 
 pub returns-in-Err-clause-run : goal.returns-in-Err-clause-run
 returns-in-Err-clause-run g c =
-    none_run (setting_of (length c.args.mailboxes.items) c.args.config c.args.catalog.now) g.N.StoreNames.start g.N.StoreNames.schema c.args.devices.now c.meet.new.line.list c.shut.result
-    c.shut.ensures.shut c.requires.keys (ap (λ (h : Half LineEvent). h.list) c.meet.ensures.line ∙ c.requires.none) c.shut.ensures.position c.shut.ensures.end
+    none_run (setting_of (length c.args.mailboxes.items) c.args.config c.args.catalog.now) g.N.StoreNames.start g.N.StoreNames.schema c.args.devices.now c.make_watchers.new.line.list c.shut.result
+    c.shut.ensures.shut c.requires.keys (ap (λ (h : Half LineEvent). h.list) c.make_watchers.ensures.line ∙ c.requires.none) c.shut.ensures.position c.shut.ensures.end
 
 -- they are handed back as they came
 pub returns-in-Err-clause-knows : goal.returns-in-Err-clause-knows

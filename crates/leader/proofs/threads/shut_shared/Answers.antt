@@ -1,5 +1,6 @@
-use Rattle.std.proofs.Common.{◌≡◌, List, sym, ap, subst, ◌∙◌}
+use Rattle.std.proofs.Common.{List, ap, subst}
 use Rattle.std.specs.Prelude.{ℕ, All}
+use Rattle.tokens.specs.Half.{Half}
 use Rattle.engine.specs.declared.events.LineEvent.{LineEvent}
 use Rattle.engine.specs.Events.{ends_in}
 use Rattle.leader.specs.WithWorkers.{IsShutSo}
@@ -13,9 +14,7 @@ returns-clause-knows g c =
     let line = c.args.finished.line.list in
     let Along = KnowsAlong g.V.Watch.knows g.N.StoreNames.schema g.N.StoreNames.start g.L.RunNames.skip in
     let watches = c.gather-watches.result.items in
-    let told : c.meet.new.self.line.list ≡ line = ap (λ s. s.line.list) c.meet.ensures.same ∙ sym (ap (λ h. h.list) c.meet.ensures.met) in
     let along : All (Along line (ends_in line)) watches =
-    subst (λ (ends : List ℕ). All (Along line ends) watches) (ap (λ p. p.ends) c.requires.published)
-    (subst (λ (events : List LineEvent). All (Along events c.args.finished.publisher.ends) watches) told c.gather-watches.ensures.knows)
+    subst (λ (ends : List ℕ). All (Along line ends) watches) (ap (λ p. p.ends) c.requires.published) c.gather-watches.ensures.knows
     in known_along g.V.Watch.knows g.N.StoreNames.schema g.N.StoreNames.start g.L.RunNames.skip line c.shut.result watches
-    (subst (λ (events : List LineEvent). IsShutSo g.N.StoreNames.schema g.N.StoreNames.start events c.shut.result) (ap (λ h. h.list) c.meet.ensures.line) c.shut.ensures.shut) along
+    (subst (λ (events : List LineEvent). IsShutSo g.N.StoreNames.schema g.N.StoreNames.start events c.shut.result) (ap (λ (h : Half LineEvent). h.list) c.gather-watches.ensures.line) c.shut.ensures.shut) along

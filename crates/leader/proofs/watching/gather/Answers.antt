@@ -2,8 +2,9 @@ use Rattle.std.proofs.Common.{sym, subst, ◌∙◌, arith}
 use Rattle.std.specs.Prelude.{All}
 use Rattle.std.proofs.lemmas.Grind.{common_steps}
 use Rattle.std.proofs.lemmas.List.Elements.{All-push}
+use Rattle.tokens.specs.Half.{Half}
+use Rattle.engine.specs.declared.events.LineEvent.{LineEvent}
 use Rattle.origin.specs.Commits.{PublishedCommits}
-use Rattle.engine.specs.Engine.{Engine}
 use Rattle.leader.specs.Watching.{KnowsAlong}
 use Rattle.leader.proofs.watching.gather.Goals as goal
 
@@ -14,14 +15,14 @@ loop-onlooker-preserved g c =
     let watch = c.into_watch.result in
     let Along = KnowsAlong g.V.Watch.knows g.N.StoreNames.schema g.N.StoreNames.start g.L.RunNames.skip in
     let knows =
-    subst (λ (p : PublishedCommits). Along c.args.store.now.line.list p.ends watch) came.publisher
-    (subst (λ (s : Engine). Along s.line.list c.loop-onlooker.publisher.ends watch) came.store c.into_watch.ensures.knows)
+    subst (λ (p : PublishedCommits). Along c.args.line.now.list p.ends watch) came.publisher
+    (subst (λ (h : Half LineEvent). Along h.list c.loop-onlooker.publisher.ends watch) came.line c.into_watch.ensures.knows)
     in record {
       can_next = came.can_next;
       is_finite = came.is_finite;
       count = grind (arith, common_steps, came.count, c.in-Some.ensures.steps.1, c.push_reserved.ensures.items);
       fits = grind (arith, came.fits, c.push_reserved.ensures.capacity);
-      knows = subst (All (Along c.args.store.now.line.list c.args.publisher.now.ends)) (sym c.push_reserved.ensures.items) (All-push (Along c.args.store.now.line.list c.args.publisher.now.ends) home watch came.knows knows);
-      store = c.into_watch.ensures.same.0 ∙ came.store;
+      knows = subst (All (Along c.args.line.now.list c.args.publisher.now.ends)) (sym c.push_reserved.ensures.items) (All-push (Along c.args.line.now.list c.args.publisher.now.ends) home watch came.knows knows);
+      line = c.into_watch.ensures.same.0 ∙ came.line;
       publisher = c.into_watch.ensures.same.1 ∙ came.publisher;
     }

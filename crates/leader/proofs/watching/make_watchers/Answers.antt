@@ -5,7 +5,6 @@ use Rattle.std.specs.Vec.Iter.{into_iter_items}
 use Rattle.tokens.specs.Half.{Half}
 use Rattle.engine.specs.declared.events.LineEvent.{LineEvent}
 use Rattle.origin.specs.Commits.{LoadedCommits}
-use Rattle.engine.specs.Engine.{Engine}
 use Rattle.leader.specs.Watching.{KnowsStart}
 use Rattle.leader.proofs.Iterated.{taken_front, front_fits, one_left, all_left}
 use Rattle.leader.proofs.watching.make_watchers.Goals as goal
@@ -22,7 +21,7 @@ new-watcher-requires-clause-known g c =
     ∣ known _ (record {
       schema = refl;
       start = refl;
-      line = ap (λ (seen : Half LineEvent). seen.list) c.watch.ensures.seen ∙ ap (λ (s : Engine). s.line.list) c.loop-watch.invariant.store ∙ c.requires.unseen;
+      line = ap (λ (seen : Half LineEvent). seen.list) (c.watch_line.ensures.seen ∙ c.loop-watch.invariant.line) ∙ c.requires.unseen;
       skip = ap (λ (l : LoadedCommits). l.skip) own ∙ c.requires.loaded.1;
       published = ap (λ (l : LoadedCommits). l.ends) own ∙ c.requires.loaded.0;
     }) ∣₁

@@ -3,7 +3,6 @@
 ghost use Rattle.std.specs.Prelude.{◌≡◌, [], false};
 
 use crate::tests::asserts::assert_same;
-use engine::StoreNames;
 use model::{Item, OutOfMemory};
 use ring::{Ring, Sender, Taker};
 use std::alloc::Global;
@@ -12,6 +11,7 @@ use std::sync::{Mutex, Wait};
 use std::test::Fail;
 use std::thread;
 use std::thread::Threads;
+use table_locks::StoreNames;
 use tokens::{Kept, Token, pair};
 use worker::{Collected, Outbox, OutboxEvent, OutboxNames, WorkItem, lock_outbox};
 

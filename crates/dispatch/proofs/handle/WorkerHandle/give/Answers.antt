@@ -12,10 +12,10 @@ use Rattle.dispatch.proofs.handle.WorkerHandle.give.Goals as goal
 use Rattle.dispatch.proofs.handle.WorkerHandle.give.Goals.{After-give, In_ok-give}
 
 -- it is a worker as before, whatever was answered
-still : (g : Over) (c : After-give g) → IsHandle (g.L.RingNames.ring c.self.inside.number) (g.L.OutboxNames.outbox c.self.inside.number) g.N.StoreNames.tickets c.self.inside.xid c.give.new.token c.self.inside.taker c.self.inside.back c.self.inside.collected
+still : (g : Over) (c : After-give g) → IsHandle (g.L.RingNames.ring c.self.inside.number) (g.L.OutboxNames.outbox c.self.inside.number) c.self.inside.xid c.give.new.token c.self.inside.taker c.self.inside.back c.self.inside.collected
 still g c =
     let l = c.self.inside in
-    still_handle l.number l.xid l.token.list l.taker l.back l.collected c.args.self.now c.self.view_is (g.L.RingNames.ring l.number) (g.L.OutboxNames.outbox l.number) g.N.StoreNames.tickets l.token c.give.new.token c.requires.goes.0 c.requires.goes.1 c.requires.away
+    still_handle l.number l.xid l.token.list l.taker l.back l.collected c.args.self.now c.self.view_is (g.L.RingNames.ring l.number) (g.L.OutboxNames.outbox l.number) l.token c.give.new.token c.requires.goes.0 c.requires.goes.1 c.requires.away
     (same_name c.give.result c.args.item l.token c.give.new.token c.give.ensures.ok c.give.ensures.err) c.self.invariant.0
 
 -- the item was given, which the worker's half of the outbox tells

@@ -4,8 +4,8 @@ use Rattle.dispatch.proofs.Trying.{on_err}
 use Rattle.dispatch.proofs.Turning.{in_place, goes_here, same_shown, aborted_by}
 use Rattle.dispatch.proofs.transactions.Transactions.drop_given.Goals as goal
 
-pub returns-in_err-store-clause-same : goal.returns-in_err-store-clause-same
-returns-in_err-store-clause-same g c =
+pub returns-in_err-running-clause-same : goal.returns-in_err-running-clause-same
+returns-in_err-running-clause-same g c =
     let t = c.self.inside in
     let within = in_place _ t.line.list t.workers.items c.args.index t.begun c.args.self.now c.self.view_is c.args.xid c.requires in
     on_err c.from_residual.result (same_shown _ t.line.list t.workers.items c.args.index t.begun c.args.self.now c.self.view_is c.index_mut-worker.result.now c.bring_back.new.self within c.index_mut-worker.ensures.value c.bring_back.ensures.same)

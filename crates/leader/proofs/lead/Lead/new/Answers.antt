@@ -17,4 +17,5 @@ returns g c = λ rows. record {
   committed = record { commits = ap numbers_in c.requires.line; done = ap commits_in c.requires.line; position = refl };
   reached = refl;
   seen = refl;
+  places = c.requires.workers;
 }

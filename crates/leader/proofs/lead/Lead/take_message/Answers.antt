@@ -44,7 +44,7 @@ commit-requires g c =
     }
 
 pub returns-in-Nothing : goal.returns-in-Nothing
-returns-in-Nothing g c = let st = c.args.self.now.transactions in step_taken c.args.self.now.stream c.admit.new.self st st c.args.payload.now c.in_ok-admit.field-0 steps.Nothing c.in-Nothing.is tt c.in_ok-admit.ensures (refl, refl) (nothing_agreed st)
+returns-in-Nothing g c = let st = c.args.self.now.transactions in step_taken c.args.self.now.stream c.admit.new.self st st c.args.payload.now c.in_ok-admit.field-0 steps.Nothing c.in-Nothing.is tt c.in_ok-admit.ensures (refl, refl, refl) (nothing_agreed st)
 
 pub returns-in_ok-begin-in-Begin : goal.returns-in_ok-begin-in-Begin
 returns-in_ok-begin-in-Begin g c = let is = c.in_ok-begin-in-Begin.ensures.ok in step_taken c.args.self.now.stream c.admit.new.self c.args.self.now.transactions c.begin.new.self c.args.payload.now c.in_ok-admit.field-0 (steps.Begin c.in-Begin.xid) c.in-Begin.is tt c.in_ok-admit.ensures (begun_line _ _ _ is) (begin_agreed _ _ _ is)
@@ -69,7 +69,7 @@ returns-in-Commit g c = λ s rows p at.
 pub returns-in_err-admit : goal.returns-in_err-admit
 returns-in_err-admit g c = λ s rows p at.
     takes_err s rows (led (record c.args.self.now.stream { session = c.admit.new.self }) c.args.self.now.transactions) p c.args.payload.now c.from_residual.result (end_of_refusal c.in_err-admit.field-0.0) c.from_residual.ensures.1
-    (stops_refused s rows (led c.args.self.now.stream c.args.self.now.transactions) (led (record c.args.self.now.stream { session = c.admit.new.self }) c.args.self.now.transactions) p c.args.payload.now c.in_err-admit.field-0.0 (end_of_refusal c.in_err-admit.field-0.0) at (same_but_open c.args.self.now.stream _ _ _ refl refl) refl (c.in_err-admit.ensures s p.state at.catalog at.session).cause refl)
+    (stops_refused s rows (led c.args.self.now.stream c.args.self.now.transactions) (led (record c.args.self.now.stream { session = c.admit.new.self }) c.args.self.now.transactions) p c.args.payload.now c.in_err-admit.field-0.0 (end_of_refusal c.in_err-admit.field-0.0) at (same_but_open c.args.self.now.stream _ _ _ refl refl refl) refl (c.in_err-admit.ensures s p.state at.catalog at.session).cause refl)
 
 pub returns-in_err-begin-in-Begin : goal.returns-in_err-begin-in-Begin
 returns-in_err-begin-in-Begin g c = stays c.args.self.now.stream c.admit.new.self c.args.self.now.transactions c.begin.new.self c.args.payload.now c.from_residual-in_err-begin-in-Begin.result c.in_err-begin-in-Begin.field-0.0 c.from_residual-in_err-begin-in-Begin.ensures.1 c.in_err-begin-in-Begin.ensures.same c.in_err-begin-in-Begin.ensures.err

@@ -1,22 +1,26 @@
 // What a reader is answered while transactions are open.
-ghost use Rattle.std.specs.Prelude.{◌≡◌, [], IfOk};
+ghost use Rattle.std.specs.Prelude.{◌≡◌, [], None, IfOk};
 ghost use Rattle.model.specs.Named.{NamesTables};
+ghost use Rattle.engine.specs.Events.{opened_by};
 ghost use Rattle.origin.specs.Commits.{commits_of, loaded_of};
+ghost use Rattle.table_locks.specs.Starts.{AreNames};
+ghost use Rattle.lock_tests.specs.Names.{HasNames};
 
 use super::scene::{Parts, Scene, Shared, remove, written, written_each};
 use super::watchers::{position, watch_in_two};
 use crate::tests::asserts::{assert_holds, assert_same};
 use crate::tests::threads::table::{TABLE, key, put};
-use engine::{EngineFault, SharedStore, StoreNames, Ticket};
-use model::{Change, Key, Lsn, Xid};
+use engine::EngineFault;
+use model::{Change, Key, Lsn, OutOfMemory, Xid};
 use origin::{Origin, Publisher};
 use snapshot::{ReadFault, Reader};
 use std::alloc::Global;
 use std::marker::Brand;
 use std::process::Abort;
-use std::sync::{Mutex, Wait};
+use std::sync::Wait;
 use std::test::Fail;
 use std::thread::Threads;
+use table_locks::{Store, StoreNames, Ticket};
 
 /// What is played: the last beside other threads.
 #[derive(Clone, Copy)]
@@ -122,9 +126,9 @@ impl<N: StoreNames, R: Abort + Wait> Stage<'_, '_, N, R> {
     }
 
     // A transaction opens, and makes a change.
-    fn begin(&mut self, xid: Xid, change: &Change) -> Result<Ticket, Fail>
+    fn begin(&mut self, xid: Xid, change: &Change) -> Result<Ticket<N>, Fail>
         requires { NamesTables 1 change.now }
-        ensures { IfOk result (λ ticket. ticket.name ≡ N.tickets) }
+        ensures { IfOk result (λ ticket. (opened_by ticket.events).wants ≡ None) }
     {
         let mut ticket = self.scene.open(self.rt, self.alloc, xid)?;
         self.scene.act(self.rt, self.alloc, &mut ticket, change)?;
@@ -210,7 +214,7 @@ impl<N: StoreNames, R: Abort + Wait> Stage<'_, '_, N, R> {
 // A position that is published is loaded, and what was seen is given back.
 fn reads_published<N: StoreNames, R: Abort + Wait>(
     rt: &R,
-    store: &Mutex<SharedStore<N>>,
+    store: &Store<N>,
     origin: &Origin,
     mut publisher: Publisher,
     mut reader: Reader<'_, N>,
@@ -223,7 +227,7 @@ fn reads_published<N: StoreNames, R: Abort + Wait>(
     origin.publish(rt, &mut publisher, first);
     assert_same(rt, reader.position(rt), first, "position");
     let (mut seen, mut loader) = reader.into_parts();
-    store.lock(rt).look(&mut seen);
+    store.lock_journal(rt).look(&mut seen);
     origin.meet(rt, &mut publisher, &mut loader);
 }
 
@@ -236,7 +240,7 @@ fn play_alone<N: StoreNames, R: Abort + Wait>(
 ) -> Result<(), Fail> {
     let (line, publisher, loader) = (shared.line, shared.publisher, shared.loader);
     let (store, origin) = (&shared.store, &shared.origin);
-    let seen = store.lock(rt).watch();
+    let seen = store.lock_journal(rt).watch();
     let reader = Reader::new(store, seen, origin, loader);
     if let Scenario::Published = which {
         reads_published(rt, store, origin, publisher, reader);
@@ -265,17 +269,24 @@ fn play_named<N: StoreNames + Send + Sync, R: Abort + Threads + Wait + Sync>(
     parts: Parts,
     which: Scenario,
 ) -> Result<(), Fail>
-    requires tickets { parts.store.tickets ≡ N.tickets }
-    requires line { parts.store.line.name ≡ N.line }
-    requires schema { parts.store.schema ≡ N.schema }
-    requires start { parts.store.world.start ≡ N.start }
+    requires { AreNames N.shares N.line N.tables N.schema N.start parts.made }
 {
-    let shared = parts.share::<N>();
+    let Ok(shared) = parts.share::<N>(alloc) else {
+        return without_memory(which);
+    };
     if let Scenario::Watched = which {
         watch_in_two(rt, alloc, shared);
         return Ok(());
     }
     play_alone(rt, alloc, shared, which)
+}
+
+// Memory was refused before anything was read, which only one of the scenarios expects.
+fn without_memory(which: Scenario) -> Result<(), Fail> {
+    match which {
+        Scenario::Refused => Ok(()),
+        _ => Err(OutOfMemory)?,
+    }
 }
 
 /// Plays with these parts.
@@ -284,7 +295,9 @@ pub(super) fn play<R: Abort + Threads + Wait + Sync>(
     alloc: Global,
     parts: Parts,
     which: Scenario,
-) -> Result<(), Fail> {
+) -> Result<(), Fail>
+    requires { HasNames parts.made }
+{
     play_named::<Brand, R>(rt, alloc, parts, which)
 }
 
@@ -294,7 +307,7 @@ fn play_new<R: Abort + Threads + Wait + Sync>(
     alloc: Global,
     which: Scenario,
 ) -> Result<(), Fail> {
-    play(rt, alloc, Parts::new(rt, alloc)?, which)
+    play(rt, alloc, Parts::new(alloc)?, which)
 }
 
 #[test]
@@ -314,7 +327,7 @@ fn a_reader_loads_what_was_published(rt: HostRuntime) -> Result<(), Fail> {
 
 #[test]
 fn a_reader_goes_on_where_memory_was_refused(rt: HostRuntime) -> Result<(), Fail> {
-    let Ok(parts) = Parts::new(&rt, rt.alloc()) else {
+    let Ok(parts) = Parts::new(rt.alloc()) else {
         return Ok(());
     };
     play(&rt, rt.alloc(), parts, Scenario::Refused)

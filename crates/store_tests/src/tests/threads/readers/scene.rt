@@ -1,50 +1,45 @@
-// A store of one table under a lock, and what its transactions do.
-ghost use Rattle.std.specs.Prelude.{◌≡◌, [], IfOk, length};
-ghost use Rattle.origin.specs.Commits.{commits_of, loaded_of};
-ghost use Rattle.std.specs.Coded.{Coded-set};
-ghost use Rattle.model.specs.Named.{NamesTables};
-ghost use Rattle.world.specs.World.{starting};
-ghost use Rattle.engine.specs.EngineCode.{world_code};
+// A store of one table, and what its transactions do.
+ghost use Rattle.std.specs.Prelude.{◌≡◌, [], None, IfOk, OnOk, length};
 ghost use Rattle.model.specs.Beginning.{last_end};
-ghost use Rattle.engine.specs.Events.{ends_in};
+ghost use Rattle.model.specs.Named.{NamesTables};
+ghost use Rattle.engine.specs.Events.{opened_by, ends_in};
+ghost use Rattle.origin.specs.Commits.{commits_of, loaded_of};
+ghost use Rattle.table_locks.specs.Starts.{AreNames};
+ghost use Rattle.lock_tests.specs.Names.{HasNames};
 
-use crate::tests::asserts::assert_same;
-use crate::tests::threads::table::{TABLE, empty_tables, key};
-use engine::{Acted, EngineFault, Line, SharedStore, Store, StoreNames, Ticket};
+use crate::tests::threads::table::{TABLE, empty_store, key};
+use engine::{Acted, EngineFault};
 use model::{Change, CommitInfo, Lsn, OutOfMemory, Row, ValueRef, Xid};
 use origin::{Loader, Origin, Publisher};
 use std::alloc::Global;
 use std::fmt::Write;
 use std::process::Abort;
-use std::sync::{Mutex, Wait};
-use std::test::Fail;
+use std::sync::Wait;
+use table_locks::{Line, Made, Store, StoreNames, Ticket};
 
 /// What a test begins with.
 #[derive(Drop)]
 pub(super) struct Parts {
-    pub(super) store: Store,
+    pub(super) made: Made,
     pub(super) line: Line,
     pub(super) origin: Origin,
     pub(super) publisher: Publisher,
     pub(super) loader: Loader,
-    ghost counted: { length store.schema ≡ 1 },
-    ghost starts: { store.world ≡ starting store.world.start } by { Coded-set world_code _ _ },
-    ghost lined: { line ≡ store.line },
+    ghost counted: { length made.blank.schema ≡ 1 },
+    ghost lined: { line ≡ made.journal.part.line },
     ghost nothing: { line.list ≡ [] },
     ghost published: { publisher ≡ commits_of origin [] },
     ghost loaded: { loader ≡ loaded_of origin loader.skip [] },
 }
 
 impl Parts {
-    pub(super) fn new(rt: &impl Abort, alloc: Global) -> Result<Parts, OutOfMemory> {
-        let tables = empty_tables(alloc)?;
-        assert!(rt; tables.len() == 1);
-        let Ok((store, line)) = Store::new(alloc, tables) else {
-            return Err(OutOfMemory);
-        };
+    pub(super) fn new(alloc: Global) -> Result<Parts, OutOfMemory>
+        ensures { IfOk result (λ parts. HasNames parts.made) }
+    {
+        let (made, line) = empty_store(alloc)?;
         let (origin, publisher, loader) = Origin::new(alloc, 0)?;
         Ok(Parts {
-            store,
+            made,
             line,
             origin,
             publisher,
@@ -53,10 +48,10 @@ impl Parts {
     }
 }
 
-/// The same, with the store under its lock.
+/// The same, with the store that is made of it.
 #[derive(Drop)]
 pub(super) struct Shared<N: StoreNames> {
-    pub(super) store: Mutex<SharedStore<N>>,
+    pub(super) store: Store<N>,
     pub(super) line: Line,
     pub(super) origin: Origin,
     pub(super) publisher: Publisher,
@@ -69,33 +64,33 @@ pub(super) struct Shared<N: StoreNames> {
 }
 
 impl Parts {
-    pub(super) fn share<N: StoreNames>(self) -> Shared<N>
-        requires tickets { self.store.tickets ≡ N.tickets }
-        requires line { self.store.line.name ≡ N.line }
-        requires schema { self.store.schema ≡ N.schema }
-        requires start { self.store.world.start ≡ N.start }
+    pub(super) fn share<N: StoreNames>(self, alloc: Global) -> Result<Shared<N>, OutOfMemory>
+        requires { AreNames N.shares N.line N.tables N.schema N.start self.made }
     {
         let Parts {
-            store,
+            made,
             line,
             origin,
             publisher,
             loader,
         } = self;
-        Shared {
-            store: Mutex::new(SharedStore::new(store)),
+        let Ok(store) = Store::new(alloc, made) else {
+            return Err(OutOfMemory);
+        };
+        Ok(Shared {
+            store,
             line,
             origin,
             publisher,
             loader,
-        }
+        })
     }
 }
 
-/// A store under a lock, the line of its transactions, and where the last commit ends.
+/// A store, the line of its transactions, and where the last commit ends.
 #[derive(Drop)]
 pub(super) struct Scene<'a, N: StoreNames> {
-    store: &'a Mutex<SharedStore<N>>,
+    store: &'a Store<N>,
     line: Line,
     end: Lsn,
     ghost counted: { length N.schema ≡ 1 },
@@ -114,7 +109,7 @@ pub(super) fn remove(alloc: Global, id: i64) -> Result<Change, OutOfMemory>
 }
 
 impl<'a, N: StoreNames> Scene<'a, N> {
-    pub(super) fn new(store: &'a Mutex<SharedStore<N>>, line: Line) -> Scene<'a, N>
+    pub(super) fn new(store: &'a Store<N>, line: Line) -> Scene<'a, N>
         requires counted { length N.schema ≡ 1 }
         requires named { line.name ≡ N.line }
         requires nothing { line.list ≡ [] }
@@ -131,44 +126,41 @@ impl<'a, N: StoreNames> Scene<'a, N> {
         rt: &impl Wait,
         alloc: Global,
         xid: Xid,
-    ) -> Result<Ticket, EngineFault>
-        ensures { IfOk result (λ ticket. ticket.name ≡ N.tickets) }
+    ) -> Result<Ticket<N>, EngineFault>
+        ensures { IfOk result (λ ticket. ticket.events ≡ []) }
     {
-        let ticket = self.store.lock(rt).open(alloc, &mut self.line, xid)?;
+        let ticket = self.store.open(rt, alloc, &mut self.line, xid)?;
         Ok(ticket)
     }
 
-    /// Does a change. Only memory can refuse it.
+    /// Does a change of a transaction that waits nowhere. Only memory can refuse it.
     pub(super) fn act(
         &self,
         rt: &(impl Abort + Wait),
         alloc: Global,
-        ticket: &mut Ticket,
+        ticket: &mut Ticket<N>,
         change: &Change,
     ) -> Result<(), OutOfMemory>
-        requires belongs { ticket.old.name ≡ N.tickets }
         requires names { NamesTables 1 change.now }
-        ensures { ticket.new.name ≡ ticket.old.name }
+        requires rests { (opened_by ticket.old.events).wants ≡ None }
+        ensures { OnOk result ((opened_by ticket.new.events).wants ≡ None) }
     {
         let xid = ticket.xid();
-        let acted = self.store.lock(rt).act(alloc, ticket, xid, change);
-        if acted == Err(EngineFault::OutOfMemory) {
-            return Err(OutOfMemory);
+        match self.store.act(rt, alloc, ticket, xid, change) {
+            Ok(Acted::Done) => Ok(()),
+            Err(EngineFault::OutOfMemory) => Err(OutOfMemory),
+            other => panic!(rt; "{xid} does not do a change: {other:?}"),
         }
-        assert_same(rt, acted, Ok(Acted::Done), xid);
-        Ok(())
     }
 
     /// A commit that ends here.
-    pub(super) fn commit(&mut self, rt: &(impl Abort + Wait), ticket: Ticket, end: Lsn)
-        requires { ticket.name ≡ N.tickets }
-    {
+    pub(super) fn commit(&mut self, rt: &(impl Abort + Wait), ticket: Ticket<N>, end: Lsn) {
         assert!(rt; end > self.end && end >= 8);
         let info = CommitInfo {
             commit: end - 8,
             end,
         };
-        self.store.lock(rt).commit(&mut self.line, ticket, info);
+        self.store.commit(rt, &mut self.line, ticket, info);
         self.end = end;
     }
 }

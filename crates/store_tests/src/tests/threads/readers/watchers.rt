@@ -6,7 +6,6 @@ use super::plays::{Scenario, play};
 use super::scene::{Parts, Scene, Shared};
 use crate::tests::asserts::assert_holds;
 use crate::tests::threads::table::{TABLE, key, put};
-use engine::StoreNames;
 use model::Xid;
 use origin::{Origin, Position, Publisher};
 use snapshot::{Reader, Watch};
@@ -16,6 +15,7 @@ use std::sync::Wait;
 use std::test::Fail;
 use std::thread;
 use std::thread::Threads;
+use table_locks::StoreNames;
 
 // How many transactions are committed while others read.
 const COMMITS: u64 = 100;
@@ -129,8 +129,8 @@ pub(super) fn watch_in_two<N: StoreNames + Send + Sync, R: Abort + Threads + Wai
     let (line, publisher, loader) = (shared.line, shared.publisher, shared.loader);
     let (store, origin) = (&shared.store, &shared.origin);
     let (seen, also_seen) = {
-        let mut guard = store.lock(rt);
-        (guard.watch(), guard.watch())
+        let mut journal = store.lock_journal(rt);
+        (journal.watch(), journal.watch())
     };
     let (one, other) = loader.split(origin);
     let one = Reader::new(store, seen, origin, one);
@@ -153,12 +153,7 @@ pub(super) fn watch_in_two<N: StoreNames + Send + Sync, R: Abort + Threads + Wai
 #[test]
 fn no_position_goes_back_and_each_commit_is_seen(rt: HostRuntime) -> Result<(), Fail> {
     for _ in 0..20 {
-        play(
-            &rt,
-            rt.alloc(),
-            Parts::new(&rt, rt.alloc())?,
-            Scenario::Watched,
-        )?;
+        play(&rt, rt.alloc(), Parts::new(rt.alloc())?, Scenario::Watched)?;
     }
     Ok(())
 }

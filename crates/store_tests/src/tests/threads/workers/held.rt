@@ -8,12 +8,13 @@ use super::plays::{Scenario, play};
 use super::shared::Hand;
 use super::steps::Step;
 use crate::tests::asserts::{assert_holds, assert_same};
-use engine::{Acted, Stop, StoreNames, Ticket};
+use engine::Stop;
 use std::process::Abort;
 use std::sync::Wait;
 use std::thread;
 use std::thread::Threads;
 use std::time::Clock;
+use table_locks::{StoreNames, Ticket};
 use worker::{Ended, Point};
 
 // What 700 does: its first change is held by 701.
@@ -51,20 +52,15 @@ static CLASHING: [Step; 2] = [Step::Put(2), Step::Last];
 
 impl<N: StoreNames + Send + Sync, R: Threads + Wait + Abort + Clock + Sync> Hand<'_, N, R> {
     // A transaction that holds the row of key 1.
-    fn open_holder(&mut self) -> Ticket
-        ensures { result.name ≡ N.tickets }
-    {
+    fn open_holder(&mut self) -> Ticket<N> {
         self.start_with(&[1, 2]);
         let mut holder = self.open(701);
-        let acted = self.act(&mut holder, HOLDING);
-        assert_same(self.rt, acted, Ok(Acted::Done), "acted");
+        self.act(&mut holder, HOLDING);
         holder
     }
 
     // Once the worker is held, the holder ends.
-    fn end_holder(mut self, holder: Ticket, held: &Flag, commits: bool) -> Self
-        requires { holder.name ≡ N.tickets }
-    {
+    fn end_holder(mut self, holder: Ticket<N>, held: &Flag, commits: bool) -> Self {
         held.wait(self.rt, 1);
         if commits {
             self.commit(holder);
@@ -77,22 +73,19 @@ impl<N: StoreNames + Send + Sync, R: Threads + Wait + Abort + Clock + Sync> Hand
     // The worker is held, and the holder ends.
     fn end_beside(
         self,
-        holder: Ticket,
-        ticket: Ticket,
+        holder: Ticket<N>,
+        ticket: Ticket<N>,
         held: &Flag,
         commits: bool,
     ) -> (Self, Came<N>)
-        requires holder { holder.name ≡ N.tickets }
-        requires ticket { (ticket.name ≡ N.tickets) × (ticket.list ≡ []) }
+        requires { ticket.events ≡ [] }
     {
         let (rt, alloc, shared) = (self.rt, self.alloc, self.shared);
         thread::join(
             rt,
+            move || self.end_holder(holder, held, commits),
             move ||
-                requires { holder.name ≡ N.tickets }
-            { self.end_holder(holder, held, commits) },
-            move ||
-                requires { (ticket.name ≡ N.tickets) × (ticket.list ≡ []) }
+                requires { ticket.events ≡ [] }
             { run_worker(rt, alloc, shared, ticket, &HELD, Plan::nowhere(held), None) },
         )
     }
@@ -126,13 +119,13 @@ impl<N: StoreNames + Send + Sync, R: Threads + Wait + Abort + Clock + Sync> Hand
     // Two workers: 700, which comes to be held, and one that goes on once it is.
     fn run_both(
         &self,
-        ticket: Ticket,
-        other: Ticket,
+        ticket: Ticket<N>,
+        other: Ticket<N>,
         steps: &[Step],
         at: Point,
     ) -> (Came<N>, Came<N>)
-        requires ticket { (ticket.name ≡ N.tickets) × (ticket.list ≡ []) }
-        requires other { (other.name ≡ N.tickets) × (other.list ≡ []) }
+        requires ticket { ticket.events ≡ [] }
+        requires other { other.events ≡ [] }
     {
         let (ready, there, held, never) = (Flag::new(), Flag::new(), Flag::new(), Flag::new());
         let plan = Plan::new(Point::Before(1), &ready, &there, &held);

@@ -5,16 +5,16 @@ ghost use Rattle.worker.specs.Working.{GoesOn};
 use super::flags::{Flag, Plan, Stops};
 use super::shared::Shared;
 use super::steps::{Step, item_of};
-use engine::{StoreNames, Ticket};
 use model::Item;
 use ring::{Ring, Sender, Taker, meet};
 use std::alloc::Global;
-use std::marker::{Brand, PhantomData};
+use std::marker::Brand;
 use std::process::Abort;
 use std::sync::Wait;
 use std::thread;
 use std::thread::Threads;
 use std::time::Clock;
+use table_locks::{StoreNames, Ticket};
 use worker::{Ended, Job, RingNames, WorkItem, work_on};
 
 /// How many slots a ring has.
@@ -23,12 +23,10 @@ const SLOTS: usize = 16;
 /// What came back of a worker: why, how many items it acknowledged, and those that were left.
 #[derive(Drop)]
 pub(super) struct Came<N: StoreNames> {
-    pub(super) ticket: Ticket,
+    pub(super) ticket: Ticket<N>,
     pub(super) ended: Ended,
     pub(super) acked: u64,
     pub(super) left: Vec<Item>,
-    of: PhantomData<N>,
-    ghost belongs: { ticket.name ≡ N.tickets },
 }
 
 impl<N: StoreNames> Came<N> {
@@ -38,17 +36,8 @@ impl<N: StoreNames> Came<N> {
     }
 
     /// Its ticket.
-    pub(super) fn into_ticket(self) -> Ticket
-        ensures { result.name ≡ N.tickets }
-    {
-        let Came {
-            ticket,
-            ended: _,
-            acked: _,
-            left: _,
-            of: _,
-        } = self;
-        ticket
+    pub(super) fn into_ticket(self) -> Ticket<N> {
+        self.ticket
     }
 }
 
@@ -66,7 +55,7 @@ fn send_all<N: StoreNames, R: Abort>(
 ) -> Sender<WorkItem<N>>
     ensures { result.ring ≡ sender.ring }
 {
-    let _ = &shared.changed;
+    let _ = &shared.store;
     for step in steps {
         let Ok(item) = item_of(alloc, *step) else {
             panic!(rt; "no memory")
@@ -76,7 +65,7 @@ fn send_all<N: StoreNames, R: Abort>(
     sender
 }
 
-// Dooms the worker when it is time, and tells it under the lock.
+// Dooms the worker when it is time, and tells that something moved.
 fn lead<N: StoreNames, R: Wait + Abort + Clock>(
     rt: &R,
     shared: &Shared<N>,
@@ -88,9 +77,7 @@ fn lead<N: StoreNames, R: Wait + Abort + Clock>(
     if let Some(Doom(seen, told)) = doom {
         seen.wait(rt, 1);
         sender.doom();
-        let store = shared.store.lock(rt);
-        shared.changed.notify_all();
-        drop(store);
+        shared.store.tell_move(rt);
         told.raise();
     }
     sender
@@ -107,14 +94,7 @@ fn work_alone<N: StoreNames, L: RingNames, R: Wait + Abort + Clock>(
     ensures { GoesOn job result.0 }
 {
     let mut gate = Stops::new(rt, plan);
-    let ended = work_on(
-        rt,
-        alloc,
-        &shared.store,
-        &shared.changed,
-        &mut job,
-        &mut gate,
-    );
+    let ended = work_on(rt, alloc, &shared.store, &mut job, &mut gate);
     (job, ended)
 }
 
@@ -142,7 +122,6 @@ fn bring_together<N: StoreNames, L: RingNames, R: Abort>(
         ended,
         acked,
         left,
-        of: PhantomData,
     }
 }
 
@@ -157,13 +136,13 @@ fn run_named<
     shared: &Shared<N>,
     sender: Sender<WorkItem<N>>,
     taker: Taker<WorkItem<N>>,
-    ticket: Ticket,
+    ticket: Ticket<N>,
     plan: Plan<'_>,
     doom: Option<Doom<'_>>,
 ) -> Came<N>
     requires rings { (sender.ring ≡ L.ring 0) × (taker.ring ≡ L.ring 0) }
     requires acked { taker.acked ≡ [] }
-    requires ticket { (ticket.name ≡ N.tickets) × (ticket.list ≡ []) }
+    requires ticket { ticket.events ≡ [] }
 {
     let job: Job<N, L> = Job::new(ticket, taker, 0);
     let (sender, (job, ended)) = thread::join(
@@ -179,12 +158,12 @@ pub(super) fn run_worker<N: StoreNames + Send + Sync, R: Threads + Wait + Abort 
     rt: &R,
     alloc: Global,
     shared: &Shared<N>,
-    ticket: Ticket,
+    ticket: Ticket<N>,
     steps: &[Step],
     plan: Plan<'_>,
     doom: Option<Doom<'_>>,
 ) -> Came<N>
-    requires { (ticket.name ≡ N.tickets) × (ticket.list ≡ []) }
+    requires { ticket.events ≡ [] }
 {
     let Ok((sender, taker)) = Ring::new::<WorkItem<N>>(alloc, SLOTS) else {
         panic!(rt; "no memory")

@@ -1,15 +1,16 @@
 // What is played by workers, each time over an empty store of its own.
 ghost use Rattle.std.specs.Prelude.{◌≡◌, [], length};
-ghost use Rattle.world.specs.World.{starting};
+ghost use Rattle.table_locks.specs.Starts.{AreNames};
 
-use super::shared::{Hand, empty_store, share};
-use engine::{Line, Store, StoreNames};
+use super::shared::{Hand, share};
+use crate::tests::threads::table::empty_store;
 use std::alloc::Global;
 use std::marker::Brand;
 use std::process::Abort;
 use std::sync::Wait;
 use std::thread::Threads;
 use std::time::Clock;
+use table_locks::{Line, Made, StoreNames};
 use worker::Point;
 
 /// Those of `held`, and then those of `together`.
@@ -31,8 +32,10 @@ pub(super) fn play<R: Threads + Wait + Abort + Clock + Sync>(
     scenario: Scenario,
 ) {
     for _ in 0..100 {
-        let (store, line) = empty_store(rt, alloc);
-        play_once::<Brand, R>(rt, alloc, store, line, scenario);
+        let Ok((made, line)) = empty_store(alloc) else {
+            panic!(rt; "no memory")
+        };
+        play_once::<Brand, R>(rt, alloc, made, line, scenario);
     }
 }
 
@@ -40,15 +43,16 @@ pub(super) fn play<R: Threads + Wait + Abort + Clock + Sync>(
 fn play_once<N: StoreNames + Send + Sync, R: Threads + Wait + Abort + Clock + Sync>(
     rt: &R,
     alloc: Global,
-    store: Store,
+    made: Made,
     line: Line,
     scenario: Scenario,
 )
-    requires names { (store.tickets ≡ N.tickets) × (store.line.name ≡ N.line) × (line.name ≡ N.line) }
+    requires names { AreNames N.shares N.line N.tables N.schema N.start made }
+    requires line { line ≡ made.journal.part.line }
     requires nothing { line.list ≡ [] }
-    requires rows { (store.schema ≡ N.schema) × (length N.schema ≡ 1) × (store.world ≡ starting N.start) }
+    requires one { length N.schema ≡ 1 }
 {
-    let shared = share::<N>(store);
+    let shared = share::<N, R>(rt, alloc, made);
     let hand = Hand::new(rt, alloc, &shared, line);
     match scenario {
         Scenario::HolderEnds { commits } => hand.holder_ends(commits),

@@ -1,23 +1,22 @@
 // A store that workers share, and the hand that opens and ends their transactions.
-ghost use Rattle.std.specs.Prelude.{◌≡◌, [], length};
-ghost use Rattle.world.specs.World.{starting};
+ghost use Rattle.std.specs.Prelude.{◌≡◌, [], None, length};
 ghost use Rattle.model.specs.Beginning.{last_end};
-ghost use Rattle.engine.specs.Events.{ends_in};
+ghost use Rattle.engine.specs.Events.{opened_by, ends_in};
+ghost use Rattle.table_locks.specs.Starts.{AreNames};
 
 use super::steps::{Step, int_at, item_of};
-use crate::tests::asserts::assert_same;
-use crate::tests::threads::table::{TABLE, empty_tables, key};
-use engine::{Acted, EngineFault, Line, SharedStore, Stop, Store, StoreNames, Ticket};
+use crate::tests::threads::table::{TABLE, key};
+use engine::{Acted, Stop};
 use model::{CommitInfo, Item, Lsn, Xid};
 use std::alloc::Global;
 use std::process::Abort;
-use std::sync::{Condvar, Mutex, Wait};
+use std::sync::Wait;
+use table_locks::{Line, Made, Store, StoreNames, Ticket};
 
-/// The store under its lock.
+/// The store, of one table.
 #[derive(Drop)]
 pub(super) struct Shared<N: StoreNames> {
-    pub(super) store: Mutex<SharedStore<N>>,
-    pub(super) changed: Condvar,
+    pub(super) store: Store<N>,
     ghost counted: { length N.schema ≡ 1 },
 }
 
@@ -47,53 +46,47 @@ impl<'a, N: StoreNames, R: Wait + Abort> Hand<'a, N, R> {
         }
     }
 
-    pub(super) fn open(&mut self, xid: Xid) -> Ticket
-        ensures { (result.name ≡ N.tickets) × (result.list ≡ []) }
+    pub(super) fn open(&mut self, xid: Xid) -> Ticket<N>
+        ensures { result.events ≡ [] }
     {
-        let mut store = self.shared.store.lock(self.rt);
-        let Ok(ticket) = store.open(self.alloc, &mut self.line, xid) else {
+        let store = &self.shared.store;
+        let Ok(ticket) = store.open(self.rt, self.alloc, &mut self.line, xid) else {
             panic!(self.rt; "{xid} does not open")
         };
         ticket
     }
 
-    /// Commits a transaction, and tells those that wait.
-    pub(super) fn commit(&mut self, ticket: Ticket)
-        requires { ticket.name ≡ N.tickets }
-    {
+    /// Commits a transaction.
+    pub(super) fn commit(&mut self, ticket: Ticket<N>) {
         assert!(self.rt; self.end < 1000000);
         let end = self.end + 16;
         let info = CommitInfo {
             commit: end - 8,
             end,
         };
-        let mut store = self.shared.store.lock(self.rt);
-        store.commit(&mut self.line, ticket, info);
+        let store = &self.shared.store;
+        store.commit(self.rt, &mut self.line, ticket, info);
         self.end = end;
-        self.shared.changed.notify_all();
     }
 
-    /// Aborts a transaction, and tells those that wait.
-    pub(super) fn abort(&mut self, ticket: Ticket)
-        requires { ticket.name ≡ N.tickets }
-    {
-        let mut store = self.shared.store.lock(self.rt);
-        store.abort(&mut self.line, ticket);
-        self.shared.changed.notify_all();
+    /// Aborts a transaction.
+    pub(super) fn abort(&mut self, ticket: Ticket<N>) {
+        let store = &self.shared.store;
+        store.abort(self.rt, &mut self.line, ticket);
     }
 
-    /// Tries a change.
-    pub(super) fn act(&self, ticket: &mut Ticket, step: Step) -> Result<Acted, EngineFault>
-        requires { ticket.old.name ≡ N.tickets }
-        ensures { ticket.new.name ≡ ticket.old.name }
+    /// Does a change of a transaction that waits nowhere.
+    pub(super) fn act(&self, ticket: &mut Ticket<N>, step: Step)
+        requires { (opened_by ticket.old.events).wants ≡ None }
+        ensures { (opened_by ticket.new.events).wants ≡ None }
     {
-        match item_of(self.alloc, step) {
-            Ok(Item::Change { sub, change }) => {
-                let mut store = self.shared.store.lock(self.rt);
-                store.act(self.alloc, ticket, sub, &change)
-            }
-            Ok(_) => panic!(self.rt; "no change"),
-            Err(_) => panic!(self.rt; "no memory"),
+        let Ok(Item::Change { sub, change }) = item_of(self.alloc, step) else {
+            panic!(self.rt; "no change")
+        };
+        let store = &self.shared.store;
+        match store.act(self.rt, self.alloc, ticket, sub, &change) {
+            Ok(Acted::Done) => {}
+            other => panic!(self.rt; "{step:?}: {other:?}"),
         }
     }
 
@@ -101,15 +94,14 @@ impl<'a, N: StoreNames, R: Wait + Abort> Hand<'a, N, R> {
     pub(super) fn start_with(&mut self, keys: &[i64]) {
         let mut ticket = self.open(1);
         for key in keys {
-            let acted = self.act(&mut ticket, Step::Put(*key));
-            assert_same(self.rt, acted, Ok(Acted::Done), *key);
+            self.act(&mut ticket, Step::Put(*key));
         }
         self.commit(ticket);
     }
 
     /// What stopped the store.
     pub(super) fn stop(&self) -> Option<Stop> {
-        self.shared.store.lock(self.rt).stop()
+        self.shared.store.lock_journal(self.rt).stop()
     }
 
     /// The note of the row at a key, with the work of all open transactions.
@@ -117,7 +109,8 @@ impl<'a, N: StoreNames, R: Wait + Abort> Hand<'a, N, R> {
         let Ok(key) = key(self.alloc, id) else {
             panic!(self.rt; "no memory")
         };
-        match self.shared.store.lock(self.rt).live(TABLE, &key) {
+        let table = self.shared.store.lock_table(self.rt, TABLE);
+        match table.live(self.rt, &key) {
             Ok(Some(row)) => int_at(&row, 1),
             Ok(None) => None,
             Err(_) => panic!(self.rt; "no memory"),
@@ -125,29 +118,13 @@ impl<'a, N: StoreNames, R: Wait + Abort> Hand<'a, N, R> {
     }
 }
 
-/// An empty store, and its line.
-pub(super) fn empty_store<R: Abort>(rt: &R, alloc: Global) -> (Store, Line)
-    ensures line { (result.1.name ≡ result.0.line.name) × (result.1.list ≡ []) }
-    ensures schema { length result.0.schema ≡ 1 }
-    ensures starts { result.0.world ≡ starting result.0.world.start }
+/// The store that is made of this.
+pub(super) fn share<N: StoreNames, R: Abort>(rt: &R, alloc: Global, made: Made) -> Shared<N>
+    requires names { AreNames N.shares N.line N.tables N.schema N.start made }
+    requires one { length N.schema ≡ 1 }
 {
-    let Ok(tables) = empty_tables(alloc) else {
+    let Ok(store) = Store::new(alloc, made) else {
         panic!(rt; "no memory")
     };
-    assert!(rt; tables.len() == 1);
-    let Ok(made) = Store::new(alloc, tables) else {
-        panic!(rt; "no memory")
-    };
-    made
-}
-
-/// The store is put under its lock.
-pub(super) fn share<N: StoreNames>(store: Store) -> Shared<N>
-    requires names { (store.tickets ≡ N.tickets) × (store.line.name ≡ N.line) }
-    requires rows { (store.schema ≡ N.schema) × (length N.schema ≡ 1) × (store.world ≡ starting N.start) }
-{
-    Shared {
-        store: Mutex::new(SharedStore::new(store)),
-        changed: Condvar::new(),
-    }
+    Shared { store }
 }

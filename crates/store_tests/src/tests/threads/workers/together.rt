@@ -7,7 +7,6 @@ use super::plays::{Scenario, play};
 use super::shared::{Hand, Shared};
 use super::steps::{Step, put_key};
 use crate::tests::asserts::{assert_holds, assert_same};
-use engine::{StoreNames, Ticket};
 use model::{Item, Xid};
 use std::alloc::Global;
 use std::process::Abort;
@@ -15,6 +14,7 @@ use std::sync::{Mutex, Wait};
 use std::thread;
 use std::thread::Threads;
 use std::time::Clock;
+use table_locks::{StoreNames, Ticket};
 use worker::{Ended, Point};
 
 // Rows with these keys.
@@ -73,10 +73,10 @@ fn one_of_many<N: StoreNames + Send + Sync, R: Threads + Wait + Abort + Clock + 
     alloc: Global,
     shared: &Shared<N>,
     meeting: &Meeting<N>,
-    ticket: Ticket,
+    ticket: Ticket<N>,
     number: u32,
 )
-    requires { (ticket.name ≡ N.tickets) × (ticket.list ≡ []) }
+    requires { ticket.events ≡ [] }
 {
     let key = number as i64;
     let steps = [Step::Put(key), Step::Put(key + 100), Step::Last];
@@ -95,11 +95,11 @@ impl<N: StoreNames + Send + Sync, R: Threads + Wait + Abort + Clock + Sync> Hand
     /// Two workers at the same time: each has a transaction, its steps and its plan.
     pub(super) fn run_two(
         &self,
-        one: (Ticket, &[Step], Plan<'_>),
-        two: (Ticket, &[Step], Plan<'_>),
+        one: (Ticket<N>, &[Step], Plan<'_>),
+        two: (Ticket<N>, &[Step], Plan<'_>),
     ) -> (Came<N>, Came<N>)
-        requires one { (one.0.name ≡ N.tickets) × (one.0.list ≡ []) }
-        requires two { (two.0.name ≡ N.tickets) × (two.0.list ≡ []) }
+        requires one { one.0.events ≡ [] }
+        requires two { two.0.events ≡ [] }
     {
         let (rt, alloc, shared) = (self.rt, self.alloc, self.shared);
         let (ticket, steps, plan) = one;
@@ -107,10 +107,10 @@ impl<N: StoreNames + Send + Sync, R: Threads + Wait + Abort + Clock + Sync> Hand
         thread::join(
             rt,
             move ||
-                requires { (ticket.name ≡ N.tickets) × (ticket.list ≡ []) }
+                requires { ticket.events ≡ [] }
             { run_worker(rt, alloc, shared, ticket, steps, plan, None) },
             move ||
-                requires { (other.name ≡ N.tickets) × (other.list ≡ []) }
+                requires { other.events ≡ [] }
             { run_worker(rt, alloc, shared, other, other_steps, other_plan, None) },
         )
     }
@@ -161,7 +161,7 @@ impl<N: StoreNames + Send + Sync, R: Threads + Wait + Abort + Clock + Sync> Hand
             for number in 0..WORKERS {
                 let ticket = self.open(700 + number);
                 let worker = move ||
-                    requires { (ticket.name ≡ N.tickets) × (ticket.list ≡ []) }
+                    requires { ticket.events ≡ [] }
                 { one_of_many(rt, alloc, shared, meeting, ticket, number) };
                 assert_holds(rt, scope.spawn(worker).is_ok(), "spawn");
             }
@@ -181,7 +181,7 @@ impl<N: StoreNames + Send + Sync, R: Threads + Wait + Abort + Clock + Sync> Hand
             assert_holds(self.rt, came.is(Ended::Last, 2, 1), "came");
             self.commit(came.into_ticket());
         }
-        let journal = self.shared.store.lock(self.rt).journal().len();
+        let journal = self.shared.store.lock_journal(self.rt).entries().len();
         assert_same(self.rt, journal, WORKERS as usize, "journal");
     }
 }

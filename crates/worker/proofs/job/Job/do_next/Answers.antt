@@ -1,4 +1,4 @@
-use Rattle.std.proofs.Common.{rules, subst, ap, ◌∙◌}
+use Rattle.std.proofs.Common.{subst, ap, ◌∙◌}
 use Rattle.worker.specs.Working.{Working, working, GoesOn, HasDone}
 use Rattle.worker.specs.WorkingLemmas.{refused_goes_on, done_goes_on, done_in_step, done_item}
 use Rattle.worker.proofs.job.Job.do_next.Goals as goal
@@ -13,12 +13,10 @@ returns-in_err-try_until_done-clause-goes_on g c =
 
 pub invariant_of-self-2 : goal.invariant_of-self-2
 invariant_of-self-2 g c =
-    let t = c.try_until_done in (
-      search rules,
-      done_in_step c.self.inside.worker c.self.inside.ticket t.new.ticket c.self.inside.taker t.new.taker t.ensures.taker t.ensures.number t.ensures.events
-          c.ack.new.self c.in_ok-try_until_done.ensures.comes c.ack.ensures (g.L.RingNames.ring c.self.inside.worker) c.self.invariant.1
-          (c.requires.0, ap (λ (w : Working). w.taker.taken) c.self.view_is ∙ c.requires.1, c.requires.2),
-    )
+    let t = c.try_until_done in
+    done_in_step c.self.inside.worker c.self.inside.ticket t.new.ticket c.self.inside.taker t.new.taker t.ensures.taker t.ensures.number t.ensures.events
+    c.ack.new.self c.in_ok-try_until_done.ensures.comes c.ack.ensures (g.L.RingNames.ring c.self.inside.worker) c.self.invariant
+    (c.requires.0, ap (λ (w : Working). w.taker.taken) c.self.view_is ∙ c.requires.1, c.requires.2)
 
 pub returns-clause-goes_on : goal.returns-clause-goes_on
 returns-clause-goes_on g c =

@@ -1,5 +1,5 @@
-use Rattle.store_tests.proofs.Names.{names_of}
+use Rattle.lock_tests.proofs.Names.{names_of}
 use Rattle.store_tests.proofs.tests.threads.readers.plays.play.Given as goal
 
 abbrev pub ghosts-play_named : goal.ghosts-play_named
-ghosts-play_named g a = names_of a.parts.store
+ghosts-play_named g a = names_of a.parts.made
