@@ -3,8 +3,6 @@ pub mod EventLemmas
 pub mod EngineCode
 pub mod Engine
 pub mod Events
-pub mod Shared
-pub mod SharedLemmas
 pub mod ShutLemmas
 pub mod FirstClash
 pub mod FirstClashLemmas

@@ -14,7 +14,6 @@
 // held and no ticket made: a commit is what the calls of a store come to.
 //
 //   store               `Store`: each call with its ticket or line
-//   shared              `SharedStore`: a store under a lock
 //   serial              `SerialStore`: a store whose transactions come one at a time
 //   open_work           the tables with the open work of such a store, and what takes it back
 //   shut                the end of a store in which transactions are still open
@@ -24,7 +23,6 @@
 //   rows_after          what stood in a table before entries of the journal
 //
 //   specs/Engine, EngineCode      a store as its callers see it; what its type keeps
-//   specs/Shared, SharedLemmas      what the type of a store under a lock keeps
 //   specs/ShutLemmas                a store that is given up while transactions are open
 //   specs/Serial, SerialInside, SerialLemmas    a store whose transactions come one at a time
 //   specs/OpenWork                  its open work
@@ -42,7 +40,6 @@ mod events;
 mod open_work;
 mod rows_after;
 mod serial;
-mod shared;
 mod shut;
 mod store;
 mod tickets;
@@ -51,6 +48,5 @@ pub use entry::{Changes, ChangesIter, Entry};
 pub use events::{Event, LineEvent};
 pub use live_tables::{Acted, EngineFault, NotSettled, Stop, Verdict};
 pub use serial::SerialStore;
-pub use shared::{SharedStore, StoreNames};
 pub use store::{Store, stop_of};
 pub use tickets::{Line, Seen, Ticket};

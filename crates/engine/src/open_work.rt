@@ -120,19 +120,6 @@ impl OpenWork {
         (items, undo)
     }
 
-    // The live tables, where no work is open. It takes no memory.
-    pub(crate) fn into_live(self) -> Live
-        requires { self.changes ≡ [] }
-        ensures { result ≡ self.live }
-    {
-        let OpenWork {
-            live,
-            undo: _,
-            items: _,
-        } = self;
-        live
-    }
-
     // The tables, with the work taken back. It takes no memory.
     pub(crate) fn take_back(self) -> Tables
         ensures rows { result.rows ≡ base_of self }

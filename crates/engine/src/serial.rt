@@ -18,8 +18,7 @@ use crate::entry::{Changes, Entry};
 use crate::events::{Event, LineEvent};
 use crate::open_work::OpenWork;
 use crate::shut::forget_each;
-use crate::store::{Store, new_tokens, record_start};
-use crate::tickets::Line;
+use crate::store::{new_tokens, record_start};
 use change::Clash;
 use indexes::Tables;
 use live_tables::Live;
@@ -82,30 +81,6 @@ impl SerialStore {
             line,
             token,
         })
-    }
-
-    /// The store for several open transactions, with its line, once no work is open. It takes no memory.
-    pub fn into_store(self) -> (Store, Line)
-        requires { self.changes ≡ [] }
-        ensures store { result.0 ≡ self.store }
-        ensures line { result.1 ≡ self.store.line }
-    {
-        let SerialStore {
-            work,
-            start,
-            journal,
-            book,
-            line,
-            token,
-        } = self;
-        let store = Store {
-            live: work.into_live(),
-            start,
-            journal,
-            book,
-            line,
-        };
-        (store, Line { token })
     }
 
     // Applies a change of a subtransaction as open work. A refusal leaves all as it was.
