@@ -1,1 +1,2 @@
 mod Scenes
+mod Names

@@ -1,1 +1,4 @@
 pub mod Scenes
+pub mod Waits
+pub mod WaitsLemmas
+pub mod Names

@@ -3,14 +3,12 @@
 //   mailboxes   `worker_threads`
 //   halves      `tokens`
 //   positions   `origin`
-//   outboxes    `worker`, what a worker is given
 //   readers     `snapshot`
 //   rings       `ring`
 //   table       the table of the stores, and its rows
 //   workers     `worker`
 mod halves;
 mod mailboxes;
-mod outboxes;
 mod positions;
 mod readers;
 mod rings;

@@ -1,10 +1,9 @@
-// That cells are held where memory is there, that a refusal changes nothing, and what a million of them cost.
+// That cells are held where memory is there, and that a refusal changes nothing.
 use crate::tests::asserts::{assert_holds, assert_same};
 use keyholds::{Cell, Holds, Xid};
 use model::{Key, OutOfMemory, TableId, Value};
 use std::alloc::Global;
 use std::process::Abort;
-use std::test::Fail;
 
 const ACCOUNTS: TableId = 0;
 
@@ -74,48 +73,4 @@ fn cells_where_memory_is_refused(rt: HostRuntime) {
         let again = take_until_refused(&rt, rt.alloc());
         assert_holds(&rt, again.is_ok(), "memory is there again");
     }
-}
-
-fn take_many(
-    rt: &impl Abort,
-    alloc: Global,
-    holds: &mut Holds<i64>,
-    count: i64,
-) -> Result<(), OutOfMemory> {
-    for key in 0..count {
-        let cell = row(alloc, ACCOUNTS, key)?;
-        assert_same(rt, hold(alloc, holds, 700, cell, key)?, None, key);
-    }
-    Ok(())
-}
-
-/// Looks many rows up for another transaction, and the whole table each time for their holder.
-fn find_many(
-    rt: &impl Abort,
-    alloc: Global,
-    holds: &Holds<i64>,
-    count: i64,
-) -> Result<(), OutOfMemory> {
-    let table = [Cell::Whole(ACCOUNTS)];
-    for key in 0..count {
-        let cell = [row(alloc, ACCOUNTS, key)?];
-        assert_same(rt, holds.free_for(701, &cell), Some(700), key);
-        assert_same(rt, holds.free_for(700, &table), None, key);
-    }
-    Ok(())
-}
-
-#[test]
-fn a_million_cells_are_held_and_let_go(rt: HostRuntime) -> Result<(), Fail> {
-    let alloc = rt.alloc();
-    let mut holds = Holds::new(alloc);
-    take_many(&rt, alloc, &mut holds, 1_000_000)?;
-    find_many(&rt, alloc, &holds, 1_000_000)?;
-    let table = [Cell::Whole(ACCOUNTS)];
-    holds.release_since(700, 2);
-    assert_same(&rt, holds.mark(700), 2, "two are left");
-    assert_same(&rt, holds.free_for(701, &table), Some(700), "two are left");
-    holds.release_all(700);
-    assert_same(&rt, holds.free_for(701, &table), None, "none is left");
-    Ok(())
 }

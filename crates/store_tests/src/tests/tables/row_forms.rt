@@ -1,12 +1,26 @@
 // Both forms of a row store, by one run of changes and undos to marks. Tables have one form alone: the other
 // is there so that the two can be compared.
-use super::row_stores::{key, row};
-use model::{Key, OutOfMemory, Row, ValueRef};
+use model::{KeptText, Key, OutOfMemory, Row, Value, ValueRef};
 use rows::{HashedRows, OrderedRows, RowStore, RowView};
 use std::alloc::Global;
 use std::cmp::Ordering;
 use std::test::Fail;
 use testing::asserts::assert_holds;
+
+/// A row of a number, a text of it, a truth and a null.
+fn row(alloc: Global, number: i64) -> Result<Row, OutOfMemory> {
+    let text = format!(in alloc; "row {number}")?;
+    let mut values = Vec::new(alloc);
+    values.push(Some(Value::Int(number)))?;
+    values.push(Some(Value::Text(KeptText::from_str(alloc, text.as_str())?)))?;
+    values.push(Some(Value::Bool(number % 2 == 0)))?;
+    values.push(None)?;
+    Row::from_values(values)
+}
+
+fn key(alloc: Global, number: i64) -> Result<Key, OutOfMemory> {
+    Ok(Key::from_value(alloc, Value::Int(number))?)
+}
 
 /// A change of a store.
 #[derive(Clone, Copy)]

@@ -8,5 +8,4 @@ mod older;
 mod refusals;
 mod scene;
 mod script;
-mod serial;
 mod worked;

@@ -196,49 +196,6 @@ fn the_leader_leaves_at_each_turn(rt: HostRuntime) -> Result<(), Fail> {
     Ok(())
 }
 
-// The number of a job, and how often it was done.
-fn seen(job: Option<Job>) -> Option<(usize, u64)> {
-    match job {
-        Some(job) => Some((job.number, job.done)),
-        None => None,
-    }
-}
-
-// A mailbox on one thread: a second job is handed back while one is there, the first where the mailbox
-// closes, and a closed mailbox takes none and starts none.
-#[test]
-fn a_mailbox_on_one_thread(rt: HostRuntime) -> Result<(), Fail> {
-    let held = Arc::new(rt.alloc(), 0u8)?;
-    let mailboxes = make_mailboxes(rt.alloc(), 1)?;
-    let [mailbox] = mailboxes.as_slice() else {
-        panic!(rt; "one mailbox was made")
-    };
-    let shared = Shared::new(1);
-    assert_same(&rt, seen(mailbox.wait_back(&rt)), None, "no job");
-    let mut jobs = jobs(rt.alloc(), 3, &held)?.into_iter();
-    let (Some(first), Some(second), Some(third)) = (jobs.next(), jobs.next(), jobs.next()) else {
-        panic!(rt; "a job is missing")
-    };
-    assert_same(&rt, seen(mailbox.give(&rt, first).err()), None, "the first");
-    assert_same(
-        &rt,
-        seen(mailbox.give(&rt, second).err()),
-        Some((1, 0)),
-        "the second",
-    );
-    assert_same(&rt, seen(mailbox.try_back(&rt)), None, "not done");
-    assert_same(&rt, seen(mailbox.close(&rt)), Some((0, 0)), "closed");
-    assert_same(
-        &rt,
-        seen(mailbox.give(&rt, third).err()),
-        Some((2, 0)),
-        "the third",
-    );
-    mailbox.serve(&rt, &shared);
-    assert_same(&rt, seen(mailbox.close(&rt)), None, "closed again");
-    Ok(())
-}
-
 // A refused allocation is told.
 #[test]
 fn mailboxes_where_memory_is_refused(rt: HostRuntime) {

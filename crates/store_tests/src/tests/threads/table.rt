@@ -3,7 +3,7 @@
 ghost use Rattle.std.specs.Prelude.{◌≡◌, [], IfOk, length};
 ghost use Rattle.std.specs.FinMap as finite;
 ghost use Rattle.model.specs.Named.{NamesTables};
-ghost use Rattle.lock_tests.specs.Names.{HasNames};
+ghost use Rattle.store_tests.specs.Names.{HasNames};
 
 use bytes::ByteStr;
 use indexes::Tables;

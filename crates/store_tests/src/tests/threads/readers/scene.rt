@@ -5,14 +5,13 @@ ghost use Rattle.model.specs.Named.{NamesTables};
 ghost use Rattle.engine.specs.Events.{opened_by, ends_in};
 ghost use Rattle.origin.specs.Commits.{commits_of, loaded_of};
 ghost use Rattle.table_locks.specs.Starts.{AreNames};
-ghost use Rattle.lock_tests.specs.Names.{HasNames};
+ghost use Rattle.store_tests.specs.Names.{HasNames};
 
-use crate::tests::threads::table::{TABLE, empty_store, key};
+use crate::tests::threads::table::empty_store;
 use engine::{Acted, EngineFault};
-use model::{Change, CommitInfo, Lsn, OutOfMemory, Row, ValueRef, Xid};
+use model::{Change, CommitInfo, Lsn, OutOfMemory, Xid};
 use origin::{Loader, Origin, Publisher};
 use std::alloc::Global;
-use std::fmt::Write;
 use std::process::Abort;
 use std::sync::Wait;
 use table_locks::{Line, Made, Store, StoreNames, Ticket};
@@ -98,16 +97,6 @@ pub(super) struct Scene<'a, N: StoreNames> {
     ghost ended: { last_end (ends_in line.list) ≡ end },
 }
 
-/// A row goes.
-pub(super) fn remove(alloc: Global, id: i64) -> Result<Change, OutOfMemory>
-    ensures { IfOk result (NamesTables 1) }
-{
-    Ok(Change::Remove {
-        table: TABLE,
-        key: key(alloc, id)?,
-    })
-}
-
 impl<'a, N: StoreNames> Scene<'a, N> {
     pub(super) fn new(store: &'a Store<N>, line: Line) -> Scene<'a, N>
         requires counted { length N.schema ≡ 1 }
@@ -163,38 +152,4 @@ impl<'a, N: StoreNames> Scene<'a, N> {
         self.store.commit(rt, &mut self.line, ticket, info);
         self.end = end;
     }
-}
-
-/// Rows as `1|10 2|20`.
-pub(super) fn written(alloc: Global, rows: &[Row]) -> Result<String, OutOfMemory> {
-    let mut out = String::new(alloc);
-    for row in rows {
-        if !out.is_empty() {
-            out.push(' ')?;
-        }
-        write_row(&mut out, row)?;
-    }
-    Ok(out)
-}
-
-/// The rows of each of several tables.
-pub(super) fn written_each(alloc: Global, tables: &[Vec<Row>]) -> Result<String, OutOfMemory> {
-    let mut out = String::new(alloc);
-    for rows in tables {
-        out.push_str(written(alloc, rows.as_slice())?.as_str())?;
-        out.push_str(" / ")?;
-    }
-    Ok(out)
-}
-
-fn write_row(out: &mut String, row: &Row) -> Result<(), OutOfMemory> {
-    let mut between = "";
-    for column in 0..row.len() {
-        out.push_str(between)?;
-        if let Some(ValueRef::Int(number)) = row.column(column) {
-            write!(out, "{number}")?;
-        }
-        between = "|";
-    }
-    Ok(())
 }

@@ -1,4 +1,4 @@
-use Rattle.lock_tests.proofs.Names.{has_names}
+use Rattle.store_tests.proofs.Names.{has_names}
 use Rattle.store_tests.proofs.tests.threads.table.empty_store.Goals as goal
 
 pub returns-in-Ok-clause-names : goal.returns-in-Ok-clause-names

@@ -1,4 +1,4 @@
-use Rattle.lock_tests.proofs.Names.{names_of}
+use Rattle.store_tests.proofs.Names.{names_of}
 use Rattle.store_tests.proofs.tests.threads.readers.plays.play.Given as goal
 
 abbrev pub ghosts-play_named : goal.ghosts-play_named

@@ -1,3 +1,0 @@
-pub mod Waits
-pub mod WaitsLemmas
-pub mod Names
