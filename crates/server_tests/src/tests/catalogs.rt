@@ -1,4 +1,5 @@
 // The catalog of what a server says of a publication, and defaults as `pg_get_expr` prints them.
+use super::OrFail;
 use super::script::{Behind, assert_fault, connect, say, say_row};
 use publication::catalog::{Answers, ask, print};
 use publication::columns::{Kind, read_default};
@@ -102,12 +103,11 @@ static REFUSED: [([&[&str]; 2], &str); 3] = [
 ];
 
 #[test]
-fn an_old_server_and_a_publication_that_is_not_there(rt: HostRuntime) -> Result<(), Fail> {
+fn an_old_server_and_a_publication_that_is_not_there(rt: HostRuntime) {
     for (case, (answers, want)) in REFUSED.iter().enumerate() {
-        let refused = asked(rt.alloc(), answers)?;
-        assert_fault(rt.alloc(), refused, *want, case)?;
+        let refused = asked(rt.alloc(), answers).or_fail(&rt);
+        assert_fault(rt.alloc(), refused, *want, case).or_fail(&rt);
     }
-    Ok(())
 }
 
 fn assert_plain(alloc: Global, toml: &str) -> Result<(), Fail> {
@@ -128,11 +128,11 @@ fn assert_notes(notes: &[String]) -> Result<(), Fail> {
 }
 
 #[test]
-fn what_is_kept_and_what_is_left_out(rt: HostRuntime) -> Result<(), Fail> {
-    let answers = asked(rt.alloc(), &SHOP)??;
-    let plain = print(rt.alloc(), &answers, false)?;
-    assert_plain(rt.alloc(), plain.toml.as_str())?;
-    assert_notes(plain.notes.as_slice())
+fn what_is_kept_and_what_is_left_out(rt: HostRuntime) {
+    let answers = asked(rt.alloc(), &SHOP).or_fail(&rt).or_fail(&rt);
+    let plain = print(rt.alloc(), &answers, false).or_fail(&rt);
+    assert_plain(rt.alloc(), plain.toml.as_str()).or_fail(&rt);
+    assert_notes(plain.notes.as_slice()).or_fail(&rt);
 }
 
 /// What stands in the catalog where columns of other types are kept as text, and what doesn't.
@@ -151,12 +151,12 @@ fn assert_parts(toml: &str) -> Result<(), Fail> {
 }
 
 #[test]
-fn what_is_kept_as_text(rt: HostRuntime) -> Result<(), Fail> {
-    let answers = asked(rt.alloc(), &SHOP)??;
-    let printed = print(rt.alloc(), &answers, true)?;
-    assert_parts(printed.toml.as_str())?;
+fn what_is_kept_as_text(rt: HostRuntime) {
+    let answers = asked(rt.alloc(), &SHOP).or_fail(&rt).or_fail(&rt);
+    let printed = print(rt.alloc(), &answers, true).or_fail(&rt);
+    assert_parts(printed.toml.as_str()).or_fail(&rt);
     let read = toml::table_from_str(rt.alloc(), printed.toml.as_str());
-    assert_holds(read.is_ok(), "as text")
+    assert_holds(read.is_ok(), "as text").or_fail(&rt);
 }
 
 /// What has just the tables and columns that are kept. Its first name has characters that SQL or a terminal
@@ -165,10 +165,10 @@ const STATEMENT: &str =
     r#"CREATE PUBLICATION "it's_kept" FOR TABLE ONLY "public".U&"odd ""\\\000A" WHERE ((n > 5)), ONLY "public"."accounts" ("id", "email", "note") WITH (publish = 'insert, update', publish_via_partition_root = true);"#;
 
 #[test]
-fn a_publication_of_what_is_kept(rt: HostRuntime) -> Result<(), Fail> {
-    let answers = asked(rt.alloc(), &SHOP)??;
-    let printed = print(rt.alloc(), &answers, false)?;
-    assert_same(printed.statement.as_deref(), Some(STATEMENT), "statement")
+fn a_publication_of_what_is_kept(rt: HostRuntime) {
+    let answers = asked(rt.alloc(), &SHOP).or_fail(&rt).or_fail(&rt);
+    let printed = print(rt.alloc(), &answers, false).or_fail(&rt);
+    assert_same(printed.statement.as_deref(), Some(STATEMENT), "statement").or_fail(&rt);
 }
 
 /// A table's columns: the key, one that is kept only as text, one that is generated.
@@ -262,14 +262,13 @@ fn is_named(notes: &[String]) -> bool {
 }
 
 #[test]
-fn a_table_that_no_publication_fits_is_named(rt: HostRuntime) -> Result<(), Fail> {
+fn a_table_that_no_publication_fits_is_named(rt: HostRuntime) {
     for (case, (answers, entry)) in FITTED.iter().enumerate() {
-        let answers = asked(rt.alloc(), answers)??;
-        let printed = print(rt.alloc(), &answers, false)?;
-        assert_fitted(rt.alloc(), printed.statement.as_deref(), *entry, case)?;
-        assert_same(is_named(printed.notes.as_slice()), entry.is_none(), case)?;
+        let answers = asked(rt.alloc(), answers).or_fail(&rt).or_fail(&rt);
+        let printed = print(rt.alloc(), &answers, false).or_fail(&rt);
+        assert_fitted(rt.alloc(), printed.statement.as_deref(), *entry, case).or_fail(&rt);
+        assert_same(is_named(printed.notes.as_slice()), entry.is_none(), case).or_fail(&rt);
     }
-    Ok(())
 }
 
 /// Defaults as a server prints them, and what each is.
@@ -297,11 +296,10 @@ static DEFAULTS: [(Kind, &str, &str); 20] = [
 ];
 
 #[test]
-fn defaults_as_the_server_prints_them(rt: HostRuntime) -> Result<(), Fail> {
+fn defaults_as_the_server_prints_them(rt: HostRuntime) {
     for (kind, expression, want) in &DEFAULTS {
-        let read = read_default(rt.alloc(), *kind, *expression)?;
-        let text = format!(in rt.alloc(); "{read:?}")?;
-        assert_same(text.as_str(), *want, *expression)?;
+        let read = read_default(rt.alloc(), *kind, *expression).or_fail(&rt);
+        let text = format!(in rt.alloc(); "{read:?}").or_fail(&rt);
+        assert_same(text.as_str(), *want, *expression).or_fail(&rt);
     }
-    Ok(())
 }

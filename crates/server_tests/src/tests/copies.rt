@@ -1,4 +1,5 @@
 // What is made of rows that are there as a slot is made, and of a file that an earlier capture left.
+use super::OrFail;
 use super::script::{Behind, Message, connect, say, say_row, spell};
 use server::copy::copy_rows;
 use server::fault::Fault;
@@ -126,12 +127,12 @@ fn assert_asked(alloc: Global, sent: &[u8]) -> Result<(), Fail> {
 }
 
 #[test]
-fn rows_that_are_there_are_a_transaction(rt: HostRuntime) -> Result<(), Fail> {
+fn rows_that_are_there_are_a_transaction(rt: HostRuntime) {
     let mut sent = Vec::new(rt.alloc());
     let mut put = Vec::new(rt.alloc());
-    let relayed = copied(rt.alloc(), &mut sent, &mut put)?;
-    assert_copied(rt.alloc(), put.as_slice(), relayed)?;
-    assert_asked(rt.alloc(), sent.as_slice())
+    let relayed = copied(rt.alloc(), &mut sent, &mut put).or_fail(&rt);
+    assert_copied(rt.alloc(), put.as_slice(), relayed).or_fail(&rt);
+    assert_asked(rt.alloc(), sent.as_slice()).or_fail(&rt);
 }
 
 /// What a captured file has behind its title: a transaction, and streamed ones, of which one commits, one
@@ -259,15 +260,14 @@ fn assert_tail(alloc: Global, file: &[u8], tail: &[u8]) -> Result<(), Fail> {
 }
 
 #[test]
-fn a_file_that_is_cut_anywhere_is_kept_to_an_edge(rt: HostRuntime) -> Result<(), Fail> {
-    let file = captured(rt.alloc())?;
+fn a_file_that_is_cut_anywhere_is_kept_to_an_edge(rt: HostRuntime) {
+    let file = captured(rt.alloc()).or_fail(&rt);
     for count in TITLE.len()..=file.len() {
-        assert_kept(rt.alloc(), file.as_slice().get(..count).unwrap_or(&[]))?;
+        assert_kept(rt.alloc(), file.as_slice().get(..count).unwrap_or(&[])).or_fail(&rt);
     }
     for tail in &TAILS {
-        assert_tail(rt.alloc(), file.as_slice(), *tail)?;
+        assert_tail(rt.alloc(), file.as_slice(), *tail).or_fail(&rt);
     }
-    Ok(())
 }
 
 /// What isn't kept: what stands behind the end of a stream, what no server sends, and what a machine that went
@@ -299,25 +299,29 @@ const ABORT: Message<'static> = (
 );
 
 #[test]
-fn what_is_open_is_aborted(rt: HostRuntime) -> Result<(), Fail> {
-    let frames = aborts(rt.alloc(), &[702], 119)?;
-    let want = spell(rt.alloc(), &[&[ABORT]])?;
-    assert_same(frames.as_slice(), want.as_slice(), "aborts")
+fn what_is_open_is_aborted(rt: HostRuntime) {
+    let frames = aborts(rt.alloc(), &[702], 119).or_fail(&rt);
+    let want = spell(rt.alloc(), &[&[ABORT]]).or_fail(&rt);
+    assert_same(frames.as_slice(), want.as_slice(), "aborts").or_fail(&rt);
 }
 
 #[test]
-fn what_a_terminal_would_obey_is_spelled(rt: HostRuntime) -> Result<(), Fail> {
-    let text = format!(in rt.alloc(); "{}", Shown("a\u{1b}[31m\n\u{9b}\u{202e}\u{e4}\"'"))?;
+fn what_a_terminal_would_obey_is_spelled(rt: HostRuntime) {
+    let text = format!(in rt.alloc(); "{}", Shown("a\u{1b}[31m\n\u{9b}\u{202e}\u{e4}\"'")).or_fail(
+        &rt,
+    );
     assert_same(
         text.as_str(),
         "a\\u001B[31m\\u000A\\u009B\\u202E\u{e4}\"'",
         "shown",
-    )?;
-    let report = read_report(rt.alloc(), b"S\x1b\0C2800\x0a\0M\x1b]0;owned\x07\0\0")?;
-    let fault = format!(in rt.alloc(); "{}", Fault::Server(report))?;
+    )
+    .or_fail(&rt);
+    let report = read_report(rt.alloc(), b"S\x1b\0C2800\x0a\0M\x1b]0;owned\x07\0\0").or_fail(&rt);
+    let fault = format!(in rt.alloc(); "{}", Fault::Server(report)).or_fail(&rt);
     assert_same(
         fault.as_str(),
         "Server: \\u001B 2800\\u000A: \\u001B]0;owned\\u0007",
         "report",
     )
+    .or_fail(&rt);
 }

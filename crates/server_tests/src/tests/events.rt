@@ -1,4 +1,5 @@
 // What is said of events, when, and what a server is asked for it.
+use super::OrFail;
 use super::script::spell;
 use super::slots::{Place as At, SYSTEM, spell_words, tell};
 use server::events::{Event, Progress, Reporting, say};
@@ -62,17 +63,18 @@ fn said(alloc: Global, millis: Option<u64>, event: Event<'_>) -> Result<String, 
 }
 
 #[test]
-fn an_event_is_said_with_its_time(rt: HostRuntime) -> Result<(), Fail> {
+fn an_event_is_said_with_its_time(rt: HostRuntime) {
     let event = Event::Made("s", Place(16));
-    let text = said(rt.alloc(), Some(1_795_837_980_123), event)?;
+    let text = said(rt.alloc(), Some(1_795_837_980_123), event).or_fail(&rt);
     let want = "2026-11-28T03:53:00.123Z publisher: the slot s was made at 0/10\n";
-    assert_same(text.as_str(), want, "time")?;
-    let text = said(rt.alloc(), None, event)?;
+    assert_same(text.as_str(), want, "time").or_fail(&rt);
+    let text = said(rt.alloc(), None, event).or_fail(&rt);
     assert_same(
         text.as_str(),
         "publisher: the slot s was made at 0/10\n",
         "none",
     )
+    .or_fail(&rt);
 }
 
 const PUT: Relayed = Relayed {
@@ -204,12 +206,15 @@ fn assert_asked(alloc: Global, heard: &[u8]) -> Result<(), Fail> {
 }
 
 #[test]
-fn the_end_of_the_log_is_asked_where_a_line_is_due(rt: HostRuntime) -> Result<(), Fail> {
-    let at = At::new(&rt, "events")?;
+fn the_end_of_the_log_is_asked_where_a_line_is_due(rt: HostRuntime) {
+    let at = At::new(&rt, "events").or_fail(&rt);
     // Nobody asks yet: there is no answer.
-    assert_holds(tell_once(rt.alloc(), &rt, &at.server, 60_000)?, "goes on")?;
-    let heard = asked(rt.alloc(), &rt, &at)?;
-    assert_asked(rt.alloc(), heard.as_slice())?;
-    fs::remove_file(&rt, at.socket.as_str())?;
-    Ok(())
+    assert_holds(
+        tell_once(rt.alloc(), &rt, &at.server, 60_000).or_fail(&rt),
+        "goes on",
+    )
+    .or_fail(&rt);
+    let heard = asked(rt.alloc(), &rt, &at).or_fail(&rt);
+    assert_asked(rt.alloc(), heard.as_slice()).or_fail(&rt);
+    fs::remove_file(&rt, at.socket.as_str()).or_fail(&rt);
 }

@@ -1,4 +1,5 @@
 // Questions to a scripted server.
+use super::OrFail;
 use super::script::{Behind, assert_fault, connect, say, say_row};
 use server::fault::Fault;
 use server::query::{Row, rows};
@@ -27,26 +28,26 @@ pub fn question(
 
 /// An answer that never ends is refused at the first row that wasn't asked for.
 #[test]
-fn more_rows_than_were_asked_for(rt: HostRuntime) -> Result<(), Fail> {
+fn more_rows_than_were_asked_for(rt: HostRuntime) {
     let mut input = Vec::new(rt.alloc());
     for _ in 0..=MOST {
-        say_row(&mut input, "a")?;
+        say_row(&mut input, "a").or_fail(&rt);
     }
-    let answer = question(rt.alloc(), input.as_slice(), 9)?;
-    assert_fault(rt.alloc(), answer, "TooManyRows", 0)
+    let answer = question(rt.alloc(), input.as_slice(), 9).or_fail(&rt);
+    assert_fault(rt.alloc(), answer, "TooManyRows", 0).or_fail(&rt);
 }
 
 /// Fewer rows than were asked for are refused by the memory that their values take.
 #[test]
-fn rows_of_more_values_than_fit(rt: HostRuntime) -> Result<(), Fail> {
+fn rows_of_more_values_than_fit(rt: HostRuntime) {
     let mut row = Vec::new(rt.alloc());
-    row.resize(NULLS, 255)?;
+    row.resize(NULLS, 255).or_fail(&rt);
     let mut input = Vec::new(rt.alloc());
     for _ in 0..MOST {
-        say(&mut input, b'D', row.as_slice())?;
+        say(&mut input, b'D', row.as_slice()).or_fail(&rt);
     }
-    let answer = question(rt.alloc(), input.as_slice(), 1 << 20)?;
-    assert_fault(rt.alloc(), answer, "TooManyRows", 0)
+    let answer = question(rt.alloc(), input.as_slice(), 1 << 20).or_fail(&rt);
+    assert_fault(rt.alloc(), answer, "TooManyRows", 0).or_fail(&rt);
 }
 
 /// How long the message of a row is that has 65535 nulls. Fewer than forty of these take all the memory
@@ -84,15 +85,16 @@ fn assert_kinds(first: &Row, second: &Row) -> Result<(), Fail> {
 }
 
 #[test]
-fn rows_in_pieces(rt: HostRuntime) -> Result<(), Fail> {
-    let input = two_rows(rt.alloc())?;
+fn rows_in_pieces(rt: HostRuntime) {
+    let input = two_rows(rt.alloc()).or_fail(&rt);
     for piece in 1..=input.len() {
-        let rows = question(rt.alloc(), input.as_slice(), piece)??;
+        let rows = question(rt.alloc(), input.as_slice(), piece)
+            .or_fail(&rt)
+            .or_fail(&rt);
         let [first, second] = rows.as_slice() else {
-            return Err(Fail::from("two rows"));
+            panic!(rt; "two rows");
         };
-        assert_values(rows.as_slice())?;
-        assert_kinds(first, second)?;
+        assert_values(rows.as_slice()).or_fail(&rt);
+        assert_kinds(first, second).or_fail(&rt);
     }
-    Ok(())
 }

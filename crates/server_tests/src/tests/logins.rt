@@ -1,4 +1,5 @@
 // Start-up with a scripted server: each way to authenticate, and who is not let in.
+use super::OrFail;
 use super::script::{Behind, Message, assert_fault, connect, say, say_all, spell};
 use server::auth::{Login, Password, Ways, log_in};
 use server::fault::Fault;
@@ -133,19 +134,18 @@ static WAYS: [(&[Message<'static>], &[u8]); 3] = [
 ];
 
 #[test]
-fn each_way_to_authenticate(rt: HostRuntime) -> Result<(), Fail> {
+fn each_way_to_authenticate(rt: HostRuntime) {
     for (asked, want) in &WAYS {
-        let input = spell(rt.alloc(), &[*asked, &WELCOME])?;
-        assert_login(rt.alloc(), input.as_slice(), *want, 1)?;
+        let input = spell(rt.alloc(), &[*asked, &WELCOME]).or_fail(&rt);
+        assert_login(rt.alloc(), input.as_slice(), *want, 1).or_fail(&rt);
     }
-    Ok(())
 }
 
 #[test]
-fn scram_with_a_server_that_knows_the_password(rt: HostRuntime) -> Result<(), Fail> {
-    let input = spell(rt.alloc(), &[&SCRAM, &WELCOME])?;
-    let want = spell(rt.alloc(), &[&CLIENT])?;
-    assert_login(rt.alloc(), input.as_slice(), want.as_slice(), 40)
+fn scram_with_a_server_that_knows_the_password(rt: HostRuntime) {
+    let input = spell(rt.alloc(), &[&SCRAM, &WELCOME]).or_fail(&rt);
+    let want = spell(rt.alloc(), &[&CLIENT]).or_fail(&rt);
+    assert_login(rt.alloc(), input.as_slice(), want.as_slice(), 40).or_fail(&rt);
 }
 
 /// What is no whole message, and the fault where the server then closes.
@@ -158,22 +158,24 @@ static HEADERS: [(&[u8], &str); 5] = [
 ];
 
 #[test]
-fn what_is_no_message_is_refused(rt: HostRuntime) -> Result<(), Fail> {
+fn what_is_no_message_is_refused(rt: HostRuntime) {
     for (case, (input, want)) in HEADERS.iter().enumerate() {
-        Attempt::of(*input, 2).assert_fault(rt.alloc(), *want, case)?;
+        Attempt::of(*input, 2)
+            .assert_fault(rt.alloc(), *want, case)
+            .or_fail(&rt);
     }
-    Ok(())
 }
 
 #[test]
-fn a_server_that_stalls(rt: HostRuntime) -> Result<(), Fail> {
-    let input = spell(rt.alloc(), &[&SCRAM, &WELCOME])?;
+fn a_server_that_stalls(rt: HostRuntime) {
+    let input = spell(rt.alloc(), &[&SCRAM, &WELCOME]).or_fail(&rt);
     for count in (0..input.len()).step_by(7) {
         let mut attempt = Attempt::of(input.as_slice().get(..count).unwrap_or(&[]), 7);
         attempt.behind = Behind::Silence;
-        attempt.assert_fault(rt.alloc(), "TimedOut", count)?;
+        attempt
+            .assert_fault(rt.alloc(), "TimedOut", count)
+            .or_fail(&rt);
     }
-    Ok(())
 }
 
 /// The client's password, the server's last message of SCRAM, and the fault.
@@ -192,14 +194,13 @@ fn scram_until(alloc: Global, last: &[u8]) -> Result<Vec<u8>, Fail> {
 }
 
 #[test]
-fn a_server_without_the_password(rt: HostRuntime) -> Result<(), Fail> {
+fn a_server_without_the_password(rt: HostRuntime) {
     for (case, (password, last, want)) in STRANGERS.iter().enumerate() {
-        let input = scram_until(rt.alloc(), *last)?;
+        let input = scram_until(rt.alloc(), *last).or_fail(&rt);
         let mut attempt = Attempt::of(input.as_slice(), 7);
         attempt.password = *password;
-        attempt.assert_fault(rt.alloc(), *want, case)?;
+        attempt.assert_fault(rt.alloc(), *want, case).or_fail(&rt);
     }
-    Ok(())
 }
 
 /// The server's first message of SCRAM, what it says behind the client's answer, and the fault.
@@ -259,12 +260,13 @@ fn scram_from(alloc: Global, first: &[u8], behind: &[Message<'_>]) -> Result<Vec
 }
 
 #[test]
-fn challenges_that_are_refused(rt: HostRuntime) -> Result<(), Fail> {
+fn challenges_that_are_refused(rt: HostRuntime) {
     for (case, (first, behind, want)) in CHALLENGES.iter().enumerate() {
-        let input = scram_from(rt.alloc(), *first, *behind)?;
-        Attempt::of(input.as_slice(), 9).assert_fault(rt.alloc(), *want, case)?;
+        let input = scram_from(rt.alloc(), *first, *behind).or_fail(&rt);
+        Attempt::of(input.as_slice(), 9)
+            .assert_fault(rt.alloc(), *want, case)
+            .or_fail(&rt);
     }
-    Ok(())
 }
 
 /// A way that isn't taken, what a server asks for, and the fault.
@@ -304,27 +306,29 @@ static EXCLUDED: [(Ways, &[Message<'static>], &str); 4] = [
 ];
 
 #[test]
-fn ways_that_are_not_taken(rt: HostRuntime) -> Result<(), Fail> {
+fn ways_that_are_not_taken(rt: HostRuntime) {
     for (case, (ways, asked, want)) in EXCLUDED.iter().enumerate() {
-        let input = spell(rt.alloc(), &[*asked, &WELCOME])?;
+        let input = spell(rt.alloc(), &[*asked, &WELCOME]).or_fail(&rt);
         let mut attempt = Attempt::of(input.as_slice(), 9);
         attempt.ways = *ways;
-        attempt.assert_fault(rt.alloc(), *want, case)?;
+        attempt.assert_fault(rt.alloc(), *want, case).or_fail(&rt);
     }
-    let input = spell(rt.alloc(), &[&[(b'R', b"\0\0\0\x03")], &WELCOME])?;
+    let input = spell(rt.alloc(), &[&[(b'R', b"\0\0\0\x03")], &WELCOME]).or_fail(&rt);
     let mut attempt = Attempt::of(input.as_slice(), 9);
     attempt.clear_text = false;
-    attempt.assert_fault(rt.alloc(), "ClearText", 9)
+    attempt
+        .assert_fault(rt.alloc(), "ClearText", 9)
+        .or_fail(&rt);
 }
 
 /// A server that sends a notice each second holds nobody past the time limit, nor one that sends parameters.
 #[test]
-fn a_server_that_talks_of_other_things(rt: HostRuntime) -> Result<(), Fail> {
+fn a_server_that_talks_of_other_things(rt: HostRuntime) {
     let notices = [(b'N', b"SNOTICE\0\0".as_slice()); 9];
-    let input = spell(rt.alloc(), &[&notices, &WELCOME])?;
+    let input = spell(rt.alloc(), &[&notices, &WELCOME]).or_fail(&rt);
     let mut attempt = Attempt::of(input.as_slice(), 14);
     attempt.behind = Behind::Slow;
-    attempt.assert_fault(rt.alloc(), "TimedOut", 0)
+    attempt.assert_fault(rt.alloc(), "TimedOut", 0).or_fail(&rt);
 }
 
 /// Settings of a session without which a role's own may hide rows, or end a copy.
@@ -336,22 +340,23 @@ static SETTINGS: [&str; 4] = [
 ];
 
 #[test]
-fn no_setting_of_a_role_hides_rows_or_ends_a_copy(rt: HostRuntime) -> Result<(), Fail> {
-    let input = spell(rt.alloc(), &[&WELCOME])?;
-    let (answer, sent) = Attempt::of(input.as_slice(), 9).log_in(rt.alloc())?;
-    answer?;
-    let text = String::from_utf8_lossy(rt.alloc(), sent.as_slice())?;
+fn no_setting_of_a_role_hides_rows_or_ends_a_copy(rt: HostRuntime) {
+    let input = spell(rt.alloc(), &[&WELCOME]).or_fail(&rt);
+    let (answer, sent) = Attempt::of(input.as_slice(), 9)
+        .log_in(rt.alloc())
+        .or_fail(&rt);
+    answer.or_fail(&rt);
+    let text = String::from_utf8_lossy(rt.alloc(), sent.as_slice()).or_fail(&rt);
     for setting in &SETTINGS {
-        assert_holds(text.as_str().find(*setting).is_some(), *setting)?;
+        assert_holds(text.as_str().find(*setting).is_some(), *setting).or_fail(&rt);
     }
-    Ok(())
 }
 
 #[test]
-fn a_password_is_not_printed(rt: HostRuntime) -> Result<(), Fail> {
+fn a_password_is_not_printed(rt: HostRuntime) {
     let password = Password {
-        text: String::from_str(rt.alloc(), "secret")?,
+        text: String::from_str(rt.alloc(), "secret").or_fail(&rt),
     };
-    let said = format!(in rt.alloc(); "{password:?}")?;
-    assert_same(said.as_str(), "Password { .. }", "printed")
+    let said = format!(in rt.alloc(); "{password:?}").or_fail(&rt);
+    assert_same(said.as_str(), "Password { .. }", "printed").or_fail(&rt);
 }

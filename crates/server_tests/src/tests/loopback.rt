@@ -1,5 +1,6 @@
 // The same over sockets of this machine. What each side writes fits the system's buffers, so one thread
 // plays both; only where the client connects by itself, another thread is the server.
+use super::OrFail;
 use super::script::{Message, SLOT, assert_fault, name_of, spell};
 use server::auth::{Login, Ways, log_in};
 use server::capture::{Keeper, Target};
@@ -78,19 +79,19 @@ fn read_all(alloc: Global, stream: &mut TcpStream) -> Result<Vec<u8>, Fail> {
 pub const WELCOME: &[u8] = b"R\0\0\0\x08\0\0\0\0Z\0\0\0\x05I";
 
 #[test]
-fn a_login_and_a_stall(rt: HostRuntime) -> Result<(), Fail> {
-    let (mut connection, mut server) = client_of(&rt, WELCOME)?;
-    log_in(&mut connection, &LOGIN, &RANDOM)?;
-    server.write_all(b"D\0\0\0\x05")?;
-    assert_fault(rt.alloc(), connection.receive(), "TimedOut", 0)
+fn a_login_and_a_stall(rt: HostRuntime) {
+    let (mut connection, mut server) = client_of(&rt, WELCOME).or_fail(&rt);
+    log_in(&mut connection, &LOGIN, &RANDOM).or_fail(&rt);
+    server.write_all(b"D\0\0\0\x05").or_fail(&rt);
+    assert_fault(rt.alloc(), connection.receive(), "TimedOut", 0).or_fail(&rt);
 }
 
 #[test]
-fn a_server_that_closes_within_a_login(rt: HostRuntime) -> Result<(), Fail> {
-    let (mut connection, server) = client_of(&rt, b"R\0\0\0\x08")?;
+fn a_server_that_closes_within_a_login(rt: HostRuntime) {
+    let (mut connection, server) = client_of(&rt, b"R\0\0\0\x08").or_fail(&rt);
     drop(server);
-    let name = name_of(rt.alloc(), log_in(&mut connection, &LOGIN, &RANDOM))?;
-    assert_holds(["Closed", "Broken"].contains(&name.as_str()), "closed")
+    let name = name_of(rt.alloc(), log_in(&mut connection, &LOGIN, &RANDOM)).or_fail(&rt);
+    assert_holds(["Closed", "Broken"].contains(&name.as_str()), "closed").or_fail(&rt);
 }
 
 /// CopyBothResponse.
@@ -139,24 +140,27 @@ fn followed(rt: &HostRuntime) -> Result<(Vec<u8>, Vec<u8>), Fail> {
 }
 
 #[test]
-fn a_stream_to_a_follower(rt: HostRuntime) -> Result<(), Fail> {
-    let (asked, got) = followed(&rt)?;
-    let want = spell(rt.alloc(), &[&FOLLOWER])?;
-    assert_same(got.as_slice(), want.as_slice(), "heard")?;
+fn a_stream_to_a_follower(rt: HostRuntime) {
+    let (asked, got) = followed(&rt).or_fail(&rt);
+    let want = spell(rt.alloc(), &[&FOLLOWER]).or_fail(&rt);
+    assert_same(got.as_slice(), want.as_slice(), "heard").or_fail(&rt);
     let told = asked
         .as_slice()
         .strip_prefix(COMMAND)
-        .ok_or("another command")?;
-    assert_holds(told.starts_with(&UPDATE), "told")
+        .expect(&rt, "another command");
+    assert_holds(told.starts_with(&UPDATE), "told").or_fail(&rt);
 }
 
 #[test]
-fn a_full_device_is_named(rt: HostRuntime) -> Result<(), Fail> {
-    let full = File::options().write(true).open(&rt, "/dev/full")?;
+fn a_full_device_is_named(rt: HostRuntime) {
+    let full = File::options()
+        .write(true)
+        .open(&rt, "/dev/full")
+        .or_fail(&rt);
     let mut keeper = Keeper::new(rt.alloc(), Target::File(full, 0));
     let frames = b"c\0\0\0\x04";
     let answer = keeper.put(&frames[..whole_frames(frames)]);
-    assert_fault(rt.alloc(), answer, "CannotWrite", 0)
+    assert_fault(rt.alloc(), answer, "CannotWrite", 0).or_fail(&rt);
 }
 
 /// A server at a host and a port, or at a folder's Unix socket.
@@ -184,14 +188,13 @@ static NOWHERE: [(&str, &str, bool, &str); 5] = [
 ];
 
 #[test]
-fn where_no_server_is(rt: HostRuntime) -> Result<(), Fail> {
+fn where_no_server_is(rt: HostRuntime) {
     for (case, (host, port, tls, want)) in NOWHERE.iter().enumerate() {
-        let mut server = server_at(rt.alloc(), *host, *port)?;
+        let mut server = server_at(rt.alloc(), *host, *port).or_fail(&rt);
         server.tls = *tls;
         let answer = server.connect(rt.alloc(), &rt, false);
-        assert_fault(rt.alloc(), answer, *want, case)?;
+        assert_fault(rt.alloc(), answer, *want, case).or_fail(&rt);
     }
-    Ok(())
 }
 
 /// Where a service listens, whether other machines may reach it, and the fault.
@@ -205,7 +208,7 @@ static ADDRESSES: [(&str, bool, &str); 6] = [
 ];
 
 #[test]
-fn a_service_is_for_this_machine_alone(rt: HostRuntime) -> Result<(), Fail> {
+fn a_service_is_for_this_machine_alone(rt: HostRuntime) {
     for (address, any, want) in &ADDRESSES {
         let service = Service {
             listen: *address,
@@ -213,39 +216,41 @@ fn a_service_is_for_this_machine_alone(rt: HostRuntime) -> Result<(), Fail> {
             once: false,
             bounds: Bounds::NONE,
         };
-        let name = name_of(rt.alloc(), listen(&rt, &service))?;
+        let name = name_of(rt.alloc(), listen(&rt, &service)).or_fail(&rt);
         // A machine may have no addresses of version 6.
         let is_right = name.as_str() == *want
             || (*address == "[::1]:0" && name.as_str() == "CannotListen");
-        assert_holds(is_right, *address)?;
+        assert_holds(is_right, *address).or_fail(&rt);
     }
-    Ok(())
 }
 
 #[test]
-fn another_follower_is_turned_away(rt: HostRuntime) -> Result<(), Fail> {
-    let listener = TcpListener::bind(&rt, "127.0.0.1:0")?;
-    listener.set_nonblocking(true)?;
-    let mut stranger = TcpStream::connect(&rt, listener.local_addr()?)?;
-    let (near, _far) = pair(&rt)?;
+fn another_follower_is_turned_away(rt: HostRuntime) {
+    let listener = TcpListener::bind(&rt, "127.0.0.1:0").or_fail(&rt);
+    listener.set_nonblocking(true).or_fail(&rt);
+    let mut stranger = TcpStream::connect(&rt, listener.local_addr().or_fail(&rt)).or_fail(&rt);
+    let (near, _far) = pair(&rt).or_fail(&rt);
     let mut follower = Follower::new(rt.alloc(), near, Some(&listener));
     let mut updates = Vec::new(rt.alloc());
     assert_holds(
-        follower.tell(&Relayed::NOTHING, false, &mut updates)?,
+        follower
+            .tell(&Relayed::NOTHING, false, &mut updates)
+            .or_fail(&rt),
         "goes on",
-    )?;
-    let heard = read_all(rt.alloc(), &mut stranger)?;
-    let want = farewell(rt.alloc(), &Fault::Busy)?;
-    assert_same(heard.as_slice(), want.as_slice(), "heard")
+    )
+    .or_fail(&rt);
+    let heard = read_all(rt.alloc(), &mut stranger).or_fail(&rt);
+    let want = farewell(rt.alloc(), &Fault::Busy).or_fail(&rt);
+    assert_same(heard.as_slice(), want.as_slice(), "heard").or_fail(&rt);
 }
 
 #[test]
-fn a_follower_says_how_far_it_is(rt: HostRuntime) -> Result<(), Fail> {
-    let (near, mut far) = pair(&rt)?;
-    far.write_all(&UPDATE)?;
+fn a_follower_says_how_far_it_is(rt: HostRuntime) {
+    let (near, mut far) = pair(&rt).or_fail(&rt);
+    far.write_all(&UPDATE).or_fail(&rt);
     let mut follower = Follower::new(rt.alloc(), near, None);
-    assert_same(follower.ask_place(&rt, LIMIT)?, 9, "place")?;
-    assert_fault(rt.alloc(), follower.ask_place(&rt, 1), "Follower", 0)
+    assert_same(follower.ask_place(&rt, LIMIT).or_fail(&rt), 9, "place").or_fail(&rt);
+    assert_fault(rt.alloc(), follower.ask_place(&rt, 1), "Follower", 0).or_fail(&rt);
 }
 
 /// What a follower that lags hears of frames, while what it said itself was not read.
@@ -274,7 +279,7 @@ fn lagging<R: Threads + Clock + Sync>(
 }
 
 #[test]
-fn a_follower_that_lags_hears_the_end(rt: HostRuntime) -> Result<(), Fail> {
-    let (near, far) = pair(&rt)?;
-    lagging(rt.alloc(), &rt, near, far)
+fn a_follower_that_lags_hears_the_end(rt: HostRuntime) {
+    let (near, far) = pair(&rt).or_fail(&rt);
+    lagging(rt.alloc(), &rt, near, far).or_fail(&rt);
 }

@@ -1,5 +1,6 @@
 // What a server may say in place of what was asked for, and the fault of a login, of a question and of a
 // stream that begins so.
+use super::OrFail;
 use super::lines::question;
 use super::logins::Attempt;
 use super::script::{Behind, Message, SLOT, assert_fault, connect, spell};
@@ -84,13 +85,26 @@ fn started(alloc: Global, input: &[u8]) -> Result<Result<(), Fault>, Fail> {
 }
 
 #[test]
-fn each_refusal_has_its_name(rt: HostRuntime) -> Result<(), Fail> {
+fn each_refusal_has_its_name(rt: HostRuntime) {
     for (case, (message, [login, asked, stream])) in REFUSALS.iter().enumerate() {
-        let input = spell(rt.alloc(), &[&[*message]])?;
+        let input = spell(rt.alloc(), &[&[*message]]).or_fail(&rt);
         let input = input.as_slice();
-        Attempt::of(input, 3).assert_fault(rt.alloc(), *login, case)?;
-        assert_fault(rt.alloc(), question(rt.alloc(), input, 4)?, *asked, case)?;
-        assert_fault(rt.alloc(), started(rt.alloc(), input)?, *stream, case)?;
+        Attempt::of(input, 3)
+            .assert_fault(rt.alloc(), *login, case)
+            .or_fail(&rt);
+        assert_fault(
+            rt.alloc(),
+            question(rt.alloc(), input, 4).or_fail(&rt),
+            *asked,
+            case,
+        )
+        .or_fail(&rt);
+        assert_fault(
+            rt.alloc(),
+            started(rt.alloc(), input).or_fail(&rt),
+            *stream,
+            case,
+        )
+        .or_fail(&rt);
     }
-    Ok(())
 }

@@ -1,4 +1,5 @@
 // A stream from a scripted server, in pieces of each length, cut anywhere, and whatever ends it.
+use super::OrFail;
 use super::script::{Behind, Message, assert_fault, connect, name_of, say, spell};
 use server::fault::Fault;
 use server::follower::{Told, farewell};
@@ -190,16 +191,15 @@ fn assert_told(alloc: Global, sent: &[u8], first: u8) -> Result<(), Fail> {
 }
 
 #[test]
-fn in_pieces_of_each_length(rt: HostRuntime) -> Result<(), Fail> {
-    let input = whole_stream(rt.alloc())?;
+fn in_pieces_of_each_length(rt: HostRuntime) {
+    let input = whole_stream(rt.alloc()).or_fail(&rt);
     for piece in 1..=input.len() {
         let mut trial = Trial::of(input.as_slice());
         trial.piece = piece;
-        let came = trial.run(rt.alloc())?;
-        assert_put(&came, input.as_slice())?;
-        assert_told(rt.alloc(), came.sent.as_slice(), first_told(piece))?;
+        let came = trial.run(rt.alloc()).or_fail(&rt);
+        assert_put(&came, input.as_slice()).or_fail(&rt);
+        assert_told(rt.alloc(), came.sent.as_slice(), first_told(piece)).or_fail(&rt);
     }
-    Ok(())
 }
 
 /// Where the last frame ends that is whole within so many bytes of the stream.
@@ -214,18 +214,17 @@ fn last_edge(count: usize) -> usize {
 }
 
 #[test]
-fn cut_anywhere_only_whole_frames_are_put(rt: HostRuntime) -> Result<(), Fail> {
-    let input = spell(rt.alloc(), &[&STREAM])?;
+fn cut_anywhere_only_whole_frames_are_put(rt: HostRuntime) {
+    let input = spell(rt.alloc(), &[&STREAM]).or_fail(&rt);
     for count in 0..=input.len() {
         for (behind, want) in [(Behind::Close, "Closed"), (Behind::Silence, "TimedOut")] {
             let mut trial = Trial::of(input.as_slice().get(..count).unwrap_or(&[]));
             trial.behind = behind;
-            let came = trial.run(rt.alloc())?;
-            assert_same(came.put.len(), last_edge(count), count)?;
-            assert_same(came.fault.as_str(), want, count)?;
+            let came = trial.run(rt.alloc()).or_fail(&rt);
+            assert_same(came.put.len(), last_edge(count), count).or_fail(&rt);
+            assert_same(came.fault.as_str(), want, count).or_fail(&rt);
         }
     }
-    Ok(())
 }
 
 /// What a server sends behind the stream, what is put of it, what it ends with, and the name of the fault.
@@ -247,16 +246,15 @@ static BEHIND: [(Message<'static>, &[u8], Option<End>, &str); 9] = [
 ];
 
 #[test]
-fn what_ends_a_stream(rt: HostRuntime) -> Result<(), Fail> {
+fn what_ends_a_stream(rt: HostRuntime) {
     for (case, ((tag, body), put, end, want)) in BEHIND.iter().enumerate() {
-        let mut input = spell(rt.alloc(), &[&STREAM])?;
-        say(&mut input, *tag, *body)?;
-        let came = Trial::of(input.as_slice()).run(rt.alloc())?;
-        assert_same(came.fault.as_str(), *want, case)?;
-        assert_same(came.end, *end, case)?;
-        assert_same(came.put.as_slice().get(LENGTH..), Some(*put), case)?;
+        let mut input = spell(rt.alloc(), &[&STREAM]).or_fail(&rt);
+        say(&mut input, *tag, *body).or_fail(&rt);
+        let came = Trial::of(input.as_slice()).run(rt.alloc()).or_fail(&rt);
+        assert_same(came.fault.as_str(), *want, case).or_fail(&rt);
+        assert_same(came.end, *end, case).or_fail(&rt);
+        assert_same(came.put.as_slice().get(LENGTH..), Some(*put), case).or_fail(&rt);
     }
-    Ok(())
 }
 
 /// A place where a stream is to end, how much is put at most, what ends it, and the name of the fault.
@@ -268,8 +266,8 @@ static PLACES: [(u64, usize, Option<End>, &str); 4] = [
 ];
 
 #[test]
-fn a_place_where_a_stream_ends(rt: HostRuntime) -> Result<(), Fail> {
-    let input = spell(rt.alloc(), &[&STREAM])?;
+fn a_place_where_a_stream_ends(rt: HostRuntime) {
+    let input = spell(rt.alloc(), &[&STREAM]).or_fail(&rt);
     for (place, put, end, want) in &PLACES {
         let mut trial = Trial::of(input.as_slice());
         trial.piece = 1;
@@ -277,12 +275,11 @@ fn a_place_where_a_stream_ends(rt: HostRuntime) -> Result<(), Fail> {
             until: Some(*place),
             millis: None,
         };
-        let came = trial.run(rt.alloc())?;
-        assert_same(came.end, *end, *place)?;
-        assert_same(came.fault.as_str(), *want, *place)?;
-        assert_same(came.put.len(), *put, *place)?;
+        let came = trial.run(rt.alloc()).or_fail(&rt);
+        assert_same(came.end, *end, *place).or_fail(&rt);
+        assert_same(came.fault.as_str(), *want, *place).or_fail(&rt);
+        assert_same(came.put.len(), *put, *place).or_fail(&rt);
     }
-    Ok(())
 }
 
 /// Two transactions, which begin at 16 and at 64 and commit at 48 and 80, the first with a keepalive within it
@@ -319,42 +316,41 @@ static TRANSACTIONS: [Message<'static>; 7] = [
 static BETWEEN: [(u64, u64); 4] = [(48, 0), (49, 4), (64, 4), (80, 4)];
 
 #[test]
-fn a_place_is_no_end_within_a_transaction(rt: HostRuntime) -> Result<(), Fail> {
-    let input = spell(rt.alloc(), &[&TRANSACTIONS])?;
+fn a_place_is_no_end_within_a_transaction(rt: HostRuntime) {
+    let input = spell(rt.alloc(), &[&TRANSACTIONS]).or_fail(&rt);
     for (place, frames) in &BETWEEN {
         let mut trial = Trial::of(input.as_slice());
         trial.bounds = Bounds {
             until: Some(*place),
             millis: None,
         };
-        let came = trial.run(rt.alloc())?;
-        assert_same(came.end, Some(End::Reached), *place)?;
-        assert_same(came.relayed.frames, *frames, *place)?;
+        let came = trial.run(rt.alloc()).or_fail(&rt);
+        assert_same(came.end, Some(End::Reached), *place).or_fail(&rt);
+        assert_same(came.relayed.frames, *frames, *place).or_fail(&rt);
     }
-    Ok(())
 }
 
 /// How many keepalives a server sends that asks for an answer with each.
 const PINGS: usize = 1000;
 
 #[test]
-fn keepalives_alone_are_answered_now_and_then(rt: HostRuntime) -> Result<(), Fail> {
+fn keepalives_alone_are_answered_now_and_then(rt: HostRuntime) {
     let pings = [(b'd', b"k\0\0\0\0\0\0\0\x20\0\0\0\0\0\0\0\0\x01".as_slice()); PINGS];
-    let input = spell(rt.alloc(), &[&pings])?;
+    let input = spell(rt.alloc(), &[&pings]).or_fail(&rt);
     let mut trial = Trial::of(input.as_slice());
     trial.piece = 23;
-    let came = trial.run(rt.alloc())?;
-    assert_same(came.relayed.frames, PINGS as u64, "frames")?;
+    let came = trial.run(rt.alloc()).or_fail(&rt);
+    assert_same(came.relayed.frames, PINGS as u64, "frames").or_fail(&rt);
     // The clock of these tests stands still while there are words.
-    assert_same(came.sent.as_slice(), update_at(32).as_slice(), "answers")
+    assert_same(came.sent.as_slice(), update_at(32).as_slice(), "answers").or_fail(&rt);
 }
 
 /// Whether more is wanted, and what ends a stream whose server is silent behind it.
 static TIMES: [(bool, End); 2] = [(true, End::Elapsed), (false, End::Enough)];
 
 #[test]
-fn a_time_after_which_a_stream_ends(rt: HostRuntime) -> Result<(), Fail> {
-    let input = spell(rt.alloc(), &[&STREAM])?;
+fn a_time_after_which_a_stream_ends(rt: HostRuntime) {
+    let input = spell(rt.alloc(), &[&STREAM]).or_fail(&rt);
     for (wanted, end) in &TIMES {
         let mut trial = Trial::of(input.as_slice());
         trial.behind = Behind::Silence;
@@ -363,26 +359,24 @@ fn a_time_after_which_a_stream_ends(rt: HostRuntime) -> Result<(), Fail> {
             millis: Some(3000),
         };
         trial.wanted = *wanted;
-        let came = trial.run(rt.alloc())?;
-        assert_same(came.end, Some(*end), "end")?;
-        assert_holds(!*wanted || came.put.as_slice() == input.as_slice(), "put")?;
+        let came = trial.run(rt.alloc()).or_fail(&rt);
+        assert_same(came.end, Some(*end), "end").or_fail(&rt);
+        assert_holds(!*wanted || came.put.as_slice() == input.as_slice(), "put").or_fail(&rt);
     }
-    Ok(())
 }
 
 #[test]
-fn a_disk_that_is_full_at_each_byte(rt: HostRuntime) -> Result<(), Fail> {
-    let input = spell(rt.alloc(), &[&STREAM])?;
+fn a_disk_that_is_full_at_each_byte(rt: HostRuntime) {
+    let input = spell(rt.alloc(), &[&STREAM]).or_fail(&rt);
     for room in 0..input.len() {
         let mut trial = Trial::of(input.as_slice());
         trial.piece = 1;
         trial.room = room;
-        let came = trial.run(rt.alloc())?;
-        assert_same(came.fault.as_str(), "CannotWrite", room)?;
-        assert_holds(came.put.len() <= room, room)?;
-        assert_holds(input.as_slice().starts_with(came.put.as_slice()), room)?;
+        let came = trial.run(rt.alloc()).or_fail(&rt);
+        assert_same(came.fault.as_str(), "CannotWrite", room).or_fail(&rt);
+        assert_holds(came.put.len() <= room, room).or_fail(&rt);
+        assert_holds(input.as_slice().starts_with(came.put.as_slice()), room).or_fail(&rt);
     }
-    Ok(())
 }
 
 /// What was put of a stream up to this place, with commits up to that one.
@@ -406,17 +400,16 @@ fn heard(alloc: Global, said: &[u8], piece: usize) -> Result<(Vec<u8>, bool), Fa
 }
 
 #[test]
-fn a_follower_is_heard_in_pieces(rt: HostRuntime) -> Result<(), Fail> {
-    let mut said = update_at(16).to_vec(rt.alloc())?;
-    said.extend_from_slice(&update_at(32))?;
-    let updates = said.clone()?;
-    said.extend_from_slice(&COPY_DONE)?;
+fn a_follower_is_heard_in_pieces(rt: HostRuntime) {
+    let mut said = update_at(16).to_vec(rt.alloc()).or_fail(&rt);
+    said.extend_from_slice(&update_at(32)).or_fail(&rt);
+    let updates = said.clone().or_fail(&rt);
+    said.extend_from_slice(&COPY_DONE).or_fail(&rt);
     for piece in 1..=said.len() {
-        let (heard, goes_on) = heard(rt.alloc(), said.as_slice(), piece)?;
-        assert_holds(!goes_on, piece)?;
-        assert_same(heard.as_slice(), updates.as_slice(), piece)?;
+        let (heard, goes_on) = heard(rt.alloc(), said.as_slice(), piece).or_fail(&rt);
+        assert_holds(!goes_on, piece).or_fail(&rt);
+        assert_same(heard.as_slice(), updates.as_slice(), piece).or_fail(&rt);
     }
-    Ok(())
 }
 
 /// What no follower says.
@@ -428,15 +421,14 @@ static NO_FOLLOWER: [&[u8]; 4] = [
 ];
 
 #[test]
-fn what_no_follower_says_is_refused(rt: HostRuntime) -> Result<(), Fail> {
+fn what_no_follower_says_is_refused(rt: HostRuntime) {
     for (case, bytes) in NO_FOLLOWER.iter().enumerate() {
         let mut told = Told::new(rt.alloc());
         let mut heard = Vec::new(rt.alloc());
         let answer = told.hear(*bytes, &put_up_to(48, 0), &mut heard);
-        assert_holds(heard.is_empty(), case)?;
-        assert_fault(rt.alloc(), answer, "Follower", case)?;
+        assert_holds(heard.is_empty(), case).or_fail(&rt);
+        assert_fault(rt.alloc(), answer, "Follower", case).or_fail(&rt);
     }
-    Ok(())
 }
 
 /// Commits that end at 24 and 40, the latter of a streamed transaction, and what is none.
@@ -459,25 +451,26 @@ static COMMITS: [Message<'static>; 4] = [
 ];
 
 #[test]
-fn commits_that_were_put_are_known(rt: HostRuntime) -> Result<(), Fail> {
-    let input = spell(rt.alloc(), &[&COMMITS])?;
-    let came = Trial::of(input.as_slice()).run(rt.alloc())?;
-    assert_same(came.relayed.committed, 40, "committed")
+fn commits_that_were_put_are_known(rt: HostRuntime) {
+    let input = spell(rt.alloc(), &[&COMMITS]).or_fail(&rt);
+    let came = Trial::of(input.as_slice()).run(rt.alloc()).or_fail(&rt);
+    assert_same(came.relayed.committed, 40, "committed").or_fail(&rt);
 }
 
 #[test]
-fn all_commits_applied_is_all_flushed(rt: HostRuntime) -> Result<(), Fail> {
+fn all_commits_applied_is_all_flushed(rt: HostRuntime) {
     for (committed, flushed) in [(0, 48), (32, 48), (33, 32)] {
         let mut told = Told::new(rt.alloc());
         let mut heard = Vec::new(rt.alloc());
-        told.hear(&update_of(48, 32), &put_up_to(48, committed), &mut heard)?;
+        told.hear(&update_of(48, 32), &put_up_to(48, committed), &mut heard)
+            .or_fail(&rt);
         assert_same(
             heard.as_slice(),
             update_of(48, flushed).as_slice(),
             committed,
-        )?;
+        )
+        .or_fail(&rt);
     }
-    Ok(())
 }
 
 /// What was put, what a follower says is written and flushed, and the fault.
@@ -489,29 +482,41 @@ static AHEAD: [(u64, u8, u8, &str); 4] = [
 ];
 
 #[test]
-fn an_update_beyond_what_was_put_is_refused(rt: HostRuntime) -> Result<(), Fail> {
+fn an_update_beyond_what_was_put_is_refused(rt: HostRuntime) {
     for (case, (put, written, flushed, want)) in AHEAD.iter().enumerate() {
         let mut told = Told::new(rt.alloc());
         let mut heard = Vec::new(rt.alloc());
         let update = update_of(*written, *flushed);
         let answer = told.hear(&update, &put_up_to(*put, 0), &mut heard);
-        assert_same(heard.is_empty(), *want == "Ahead", case)?;
-        assert_fault(rt.alloc(), answer, *want, case)?;
+        assert_same(heard.is_empty(), *want == "Ahead", case).or_fail(&rt);
+        assert_fault(rt.alloc(), answer, *want, case).or_fail(&rt);
     }
     // What the follower had before the stream began it may confirm again.
     let mut told = Told::new(rt.alloc());
-    assert_same(told.begin(&update_at(48)[..20])?, None, "a part")?;
-    assert_same(told.begin(&update_at(48)[20..])?, Some(48), "begun")?;
+    assert_same(
+        told.begin(&update_at(48)[..20]).or_fail(&rt),
+        None,
+        "a part",
+    )
+    .or_fail(&rt);
+    assert_same(
+        told.begin(&update_at(48)[20..]).or_fail(&rt),
+        Some(48),
+        "begun",
+    )
+    .or_fail(&rt);
     let mut heard = Vec::new(rt.alloc());
     assert_holds(
-        told.hear(&update_at(48), &Relayed::NOTHING, &mut heard)?,
+        told.hear(&update_at(48), &Relayed::NOTHING, &mut heard)
+            .or_fail(&rt),
         "again",
     )
+    .or_fail(&rt);
 }
 
 #[test]
-fn a_farewell_is_an_error_response(rt: HostRuntime) -> Result<(), Fail> {
-    let frame = farewell(rt.alloc(), &Fault::Closed)?;
+fn a_farewell_is_an_error_response(rt: HostRuntime) {
+    let frame = farewell(rt.alloc(), &Fault::Closed).or_fail(&rt);
     let want = b"E\x00\x00\x00\x3dSFATAL\0C08006\0MClosed: the server closed the connection\0\0";
-    assert_same(frame.as_slice(), want.as_slice(), "farewell")
+    assert_same(frame.as_slice(), want.as_slice(), "farewell").or_fail(&rt);
 }

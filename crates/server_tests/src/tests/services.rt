@@ -1,4 +1,5 @@
 // Whole services: a scripted server at a Unix socket, a follower that lags, and a stranger who comes beside it.
+use super::OrFail;
 use super::loopback::free_address;
 use super::script::{Message, name_of, spell};
 use super::slots::{
@@ -336,16 +337,15 @@ fn assert_refused(alloc: Global, refused: &[u8], number: usize) -> Result<(), Fa
 }
 
 #[test]
-fn services_for_a_follower_that_lags(rt: HostRuntime) -> Result<(), Fail> {
-    let place = Place::new(&rt, "services")?;
+fn services_for_a_follower_that_lags(rt: HostRuntime) {
+    let place = Place::new(&rt, "services").or_fail(&rt);
     for (number, case) in CASES.iter().enumerate() {
-        let address = free_address(&rt)?;
-        let came = run_case(rt.alloc(), &rt, &place, *case, address.as_str())?;
-        assert_same(came.fault.as_str(), case.fault, number)?;
-        assert_heard(rt.alloc(), came.heard.as_slice(), case, number)?;
-        assert_refused(rt.alloc(), came.refused.as_slice(), number)?;
-        assert_asked(rt.alloc(), came.asked.as_slice(), case.asked, number)?;
+        let address = free_address(&rt).or_fail(&rt);
+        let came = run_case(rt.alloc(), &rt, &place, *case, address.as_str()).or_fail(&rt);
+        assert_same(came.fault.as_str(), case.fault, number).or_fail(&rt);
+        assert_heard(rt.alloc(), came.heard.as_slice(), case, number).or_fail(&rt);
+        assert_refused(rt.alloc(), came.refused.as_slice(), number).or_fail(&rt);
+        assert_asked(rt.alloc(), came.asked.as_slice(), case.asked, number).or_fail(&rt);
     }
-    fs::remove_file(&rt, place.socket.as_str())?;
-    Ok(())
+    fs::remove_file(&rt, place.socket.as_str()).or_fail(&rt);
 }

@@ -1,5 +1,6 @@
 // Captures and services at a scripted server over a Unix socket: what is asked before a slot is made, what is
 // left of a slot and a file where a command goes no further, and what a captured file has.
+use super::OrFail;
 use super::loopback::{WELCOME, server_at};
 use super::script::{Message, SLOT, name_of, say, say_row, spell};
 use server::capture::{Destination, capture};
@@ -425,17 +426,16 @@ fn assert_file(rt: &HostRuntime, place: &Place, case: &Case, number: usize) -> R
 }
 
 #[test]
-fn slots_and_files_of_commands(rt: HostRuntime) -> Result<(), Fail> {
-    let place = Place::new(&rt, "slots")?;
+fn slots_and_files_of_commands(rt: HostRuntime) {
+    let place = Place::new(&rt, "slots").or_fail(&rt);
     for (number, case) in CASES.iter().enumerate() {
-        leave_file(&rt, &place, &case.left)?;
-        let _other = hold_file(&rt, &place, case)?;
-        let (name, heard) = run_case(rt.alloc(), &rt, &place, case)?;
-        assert_same(name.as_str(), case.fault, number)?;
-        assert_asked(rt.alloc(), heard.as_slice(), case.asked, number)?;
-        assert_file(&rt, &place, case, number)?;
+        leave_file(&rt, &place, &case.left).or_fail(&rt);
+        let _other = hold_file(&rt, &place, case).or_fail(&rt);
+        let (name, heard) = run_case(rt.alloc(), &rt, &place, case).or_fail(&rt);
+        assert_same(name.as_str(), case.fault, number).or_fail(&rt);
+        assert_asked(rt.alloc(), heard.as_slice(), case.asked, number).or_fail(&rt);
+        assert_file(&rt, &place, case, number).or_fail(&rt);
     }
-    leave_file(&rt, &place, &None)?;
-    fs::remove_file(&rt, place.socket.as_str())?;
-    Ok(())
+    leave_file(&rt, &place, &None).or_fail(&rt);
+    fs::remove_file(&rt, place.socket.as_str()).or_fail(&rt);
 }

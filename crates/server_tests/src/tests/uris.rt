@@ -1,4 +1,5 @@
 // Connection URIs and password files, as libpq has them.
+use super::OrFail;
 use super::loopback::server_at;
 use super::options::words;
 use publisher_command::{
@@ -9,6 +10,7 @@ use server::host::Server;
 use std::alloc::Global;
 use std::fs::Permissions;
 use std::os::unix::fs::PermissionsExt;
+use std::process::Abort;
 use std::test::Fail;
 use std::{env, fs, process};
 use testing::asserts::{assert_holds, assert_same};
@@ -62,16 +64,16 @@ fn shown(alloc: Global, parts: &Parts) -> Result<String, Fail> {
 }
 
 #[test]
-fn connection_uris(rt: HostRuntime) -> Result<(), Fail> {
+fn connection_uris(rt: HostRuntime) {
     for (uri, want) in &URIS {
         let read = match read_uri(rt.alloc(), *uri) {
-            Some(Ok(parts)) => shown(rt.alloc(), &parts)?,
-            Some(Err(fault)) => format!(in rt.alloc(); "{fault:?}")?,
+            Some(Ok(parts)) => shown(rt.alloc(), &parts).or_fail(&rt),
+            Some(Err(fault)) => format!(in rt.alloc(); "{fault:?}").or_fail(&rt),
             None => String::new(rt.alloc()),
         };
-        assert_same(read.as_str(), *want, *uri)?;
+        assert_same(read.as_str(), *want, *uri).or_fail(&rt);
     }
-    assert_holds(read_uri(rt.alloc(), "mydb").is_none(), "a name")
+    assert_holds(read_uri(rt.alloc(), "mydb").is_none(), "a name").or_fail(&rt);
 }
 
 /// Modes of TLS that don't ask for it, and such as do.
@@ -81,17 +83,16 @@ static MODES: [(bool, [&str; 3]); 2] = [
 ];
 
 #[test]
-fn modes_that_ask_for_tls(rt: HostRuntime) -> Result<(), Fail> {
+fn modes_that_ask_for_tls(rt: HostRuntime) {
     for (want, modes) in &MODES {
         for mode in modes {
-            assert_same(asks_tls(*mode), *want, *mode)?;
-            let uri = format!(in rt.alloc(); "postgresql://h?sslmode={mode}")?;
-            let parts = read_uri(rt.alloc(), uri.as_str()).ok_or("no URI")?;
-            let tls = parts.ok().ok_or("refused")?.tls;
-            assert_same(tls, Some(*want), *mode)?;
+            assert_same(asks_tls(*mode), *want, *mode).or_fail(&rt);
+            let uri = format!(in rt.alloc(); "postgresql://h?sslmode={mode}").or_fail(&rt);
+            let parts = read_uri(rt.alloc(), uri.as_str()).expect(&rt, "no URI");
+            let tls = parts.ok().expect(&rt, "refused").tls;
+            assert_same(tls, Some(*want), *mode).or_fail(&rt);
         }
     }
-    Ok(())
 }
 
 /// The words of a command for this database.
@@ -110,17 +111,15 @@ fn logged_in(alloc: Global) -> Result<Variables, Fail> {
 }
 
 /// The server of both, unless the command is refused.
-fn server_of(alloc: Global, database: &str) -> Result<Option<Server>, Fail> {
-    let words = words_for(alloc, database)?;
-    let Ok(options) = parse(alloc, words.as_slice()) else {
-        return Ok(None);
-    };
-    assert_holds(
+fn server_of<R: Abort + Eprint>(rt: &R, alloc: Global, database: &str) -> Option<Server> {
+    let words = words_for(alloc, database).or_fail(rt);
+    let options = parse(alloc, words.as_slice()).ok()?;
+    assert!(rt;
         matches!(options.job, Job::Catalog { .. }),
-        "another command",
-    )?;
-    let variables = logged_in(alloc)?;
-    Ok(choose_server(alloc, &options, &variables)?)
+        "another command"
+    );
+    let variables = logged_in(alloc).or_fail(rt);
+    choose_server(alloc, &options, &variables).or_fail(rt)
 }
 
 /// What is given for the database, and the port and the database that are meant.
@@ -134,16 +133,15 @@ static DATABASES: [(&str, Option<(&str, &str)>); 6] = [
 ];
 
 #[test]
-fn a_uri_goes_before_options(rt: HostRuntime) -> Result<(), Fail> {
+fn a_uri_goes_before_options(rt: HostRuntime) {
     for (database, want) in &DATABASES {
-        let server = server_of(rt.alloc(), *database)?;
+        let server = server_of(&rt, rt.alloc(), *database);
         let found = match &server {
             Some(server) => Some((server.port.as_str(), server.database.as_str())),
             None => None,
         };
-        assert_same(found, *want, *database)?;
+        assert_same(found, *want, *database).or_fail(&rt);
     }
-    Ok(())
 }
 
 /// Lines of a password file, and the password of alice for the database shop at port 5432 of the host db,
@@ -188,14 +186,13 @@ fn assert_password(alloc: Global, lines: &str, host: &str, want: &str) -> Result
 }
 
 #[test]
-fn lines_of_a_password_file(rt: HostRuntime) -> Result<(), Fail> {
+fn lines_of_a_password_file(rt: HostRuntime) {
     for (lines, want) in &LINES {
-        assert_password(rt.alloc(), *lines, "db", *want)?;
+        assert_password(rt.alloc(), *lines, "db", *want).or_fail(&rt);
     }
     for (lines, host, want) in &HOSTS {
-        assert_password(rt.alloc(), *lines, *host, *want)?;
+        assert_password(rt.alloc(), *lines, *host, *want).or_fail(&rt);
     }
-    Ok(())
 }
 
 /// The mode of a password file, and whether it is read.
@@ -215,24 +212,27 @@ fn passfile(rt: &HostRuntime) -> Result<String, Fail> {
 }
 
 #[test]
-fn a_password_file_is_its_owners_alone(rt: HostRuntime) -> Result<(), Fail> {
-    let path = passfile(&rt)?;
-    fs::write(&rt, path.as_str(), b"*:*:*:*:secret")?;
+fn a_password_file_is_its_owners_alone(rt: HostRuntime) {
+    let path = passfile(&rt).or_fail(&rt);
+    fs::write(&rt, path.as_str(), b"*:*:*:*:secret").or_fail(&rt);
     for (mode, want) in &FILE_MODES {
-        fs::set_permissions(&rt, path.as_str(), Permissions::from_mode(*mode))?;
-        let found = read_passfile(rt.alloc(), &rt, path.as_str())?;
-        assert_same(found.is_empty(), !*want, *mode)?;
+        fs::set_permissions(&rt, path.as_str(), Permissions::from_mode(*mode)).or_fail(&rt);
+        let found = read_passfile(rt.alloc(), &rt, path.as_str()).or_fail(&rt);
+        assert_same(found.is_empty(), !*want, *mode).or_fail(&rt);
     }
-    fs::remove_file(&rt, path.as_str())?;
-    let found = read_passfile(rt.alloc(), &rt, path.as_str())?;
-    assert_holds(found.is_empty(), "no file")
+    fs::remove_file(&rt, path.as_str()).or_fail(&rt);
+    let found = read_passfile(rt.alloc(), &rt, path.as_str()).or_fail(&rt);
+    assert_holds(found.is_empty(), "no file").or_fail(&rt);
 }
 
 /// What can't be read has no passwords: of the second the first byte is none of this process.
 #[test]
-fn a_password_file_that_cannot_be_read(rt: HostRuntime) -> Result<(), Fail> {
+fn a_password_file_that_cannot_be_read(rt: HostRuntime) {
     for path in ["/", "/proc/self/mem"] {
-        assert_holds(read_passfile(rt.alloc(), &rt, path)?.is_empty(), path)?;
+        assert_holds(
+            read_passfile(rt.alloc(), &rt, path).or_fail(&rt).is_empty(),
+            path,
+        )
+        .or_fail(&rt);
     }
-    Ok(())
 }

@@ -1,4 +1,5 @@
 // Vectors of the standards, and of PostgreSQL's password hash.
+use super::OrFail;
 use server::auth::md5_password;
 use server::saslprep::prepare;
 use server::scram::{Exchange, hmac};
@@ -28,22 +29,24 @@ static FINALS: [(&str, bool); 5] = [
 ];
 
 #[test]
-fn scram_is_that_of_rfc_7677(rt: HostRuntime) -> Result<(), Fail> {
-    let exchange = exchange(rt.alloc())?;
-    let first = exchange.first()?;
-    assert_same(first.as_str(), "n,,n=user,r=rOprNGfwEbeRWgbNEkqO", "first")?;
-    let proof = exchange.proof("pencil", CHALLENGE)?;
-    assert_same(proof.message.as_str(), ANSWER, "answer")
+fn scram_is_that_of_rfc_7677(rt: HostRuntime) {
+    let exchange = exchange(rt.alloc()).or_fail(&rt);
+    let first = exchange.first().or_fail(&rt);
+    assert_same(first.as_str(), "n,,n=user,r=rOprNGfwEbeRWgbNEkqO", "first").or_fail(&rt);
+    let proof = exchange.proof("pencil", CHALLENGE).or_fail(&rt);
+    assert_same(proof.message.as_str(), ANSWER, "answer").or_fail(&rt);
 }
 
 #[test]
-fn a_server_is_known_by_its_last_message(rt: HostRuntime) -> Result<(), Fail> {
-    let proof = exchange(rt.alloc())?.proof("pencil", CHALLENGE)?;
+fn a_server_is_known_by_its_last_message(rt: HostRuntime) {
+    let proof = exchange(rt.alloc())
+        .or_fail(&rt)
+        .proof("pencil", CHALLENGE)
+        .or_fail(&rt);
     for (text, want) in &FINALS {
         let answer = proof.is_answered_by(rt.alloc(), *text);
-        assert_same(answer, *want, *text)?;
+        assert_same(answer, *want, *text).or_fail(&rt);
     }
-    Ok(())
 }
 
 /// A key, a message in two parts, and its hash.
@@ -63,18 +66,17 @@ static HASHED: [(&[u8], &[u8], &[u8], &str); 2] = [
 ];
 
 #[test]
-fn hmac_is_that_of_rfc_4231(rt: HostRuntime) -> Result<(), Fail> {
+fn hmac_is_that_of_rfc_4231(rt: HostRuntime) {
     for (key, first, second, want) in &HASHED {
-        let text = hex::encode(rt.alloc(), &hmac(*key, *first, *second))?;
-        assert_same(text.as_str(), *want, *want)?;
+        let text = hex::encode(rt.alloc(), &hmac(*key, *first, *second)).or_fail(&rt);
+        assert_same(text.as_str(), *want, *want).or_fail(&rt);
     }
-    Ok(())
 }
 
 #[test]
-fn an_md5_password_is_that_of_python(rt: HostRuntime) -> Result<(), Fail> {
-    let text = md5_password(rt.alloc(), "alice", "secret", &[1, 2, 3, 4])?;
-    assert_same(text.as_str(), "md598a0412b9c31436fc53776e863350083", "")
+fn an_md5_password_is_that_of_python(rt: HostRuntime) {
+    let text = md5_password(rt.alloc(), "alice", "secret", &[1, 2, 3, 4]).or_fail(&rt);
+    assert_same(text.as_str(), "md598a0412b9c31436fc53776e863350083", "").or_fail(&rt);
 }
 
 /// Passwords, among them the examples of RFC 4013, and what they are proved as, by Python's `stringprep` and
@@ -109,10 +111,9 @@ static PREPARED: [(&str, &str); 26] = [
 ];
 
 #[test]
-fn a_password_is_prepared_as_rfc_4013_says(rt: HostRuntime) -> Result<(), Fail> {
+fn a_password_is_prepared_as_rfc_4013_says(rt: HostRuntime) {
     for (password, want) in &PREPARED {
-        let prepared = prepare(rt.alloc(), *password)?;
-        assert_same(prepared.as_str(), *want, *password)?;
+        let prepared = prepare(rt.alloc(), *password).or_fail(&rt);
+        assert_same(prepared.as_str(), *want, *password).or_fail(&rt);
     }
-    Ok(())
 }

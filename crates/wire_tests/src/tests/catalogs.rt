@@ -1,3 +1,4 @@
+use super::OrFail;
 use catalog::{Catalog, CatalogFault, Column, ColumnType, Value};
 use model::KeptText;
 use std::alloc::{AllocError, Global};
@@ -22,30 +23,30 @@ fn assert_columns(columns: &[Column]) -> Result<(), Fail> {
 }
 
 #[test]
-fn reads_the_accounts(rt: HostRuntime) -> Result<(), Fail> {
-    let catalog = Catalog::read(rt.alloc(), CATALOG)?;
+fn reads_the_accounts(rt: HostRuntime) {
+    let catalog = Catalog::read(rt.alloc(), CATALOG).or_fail(&rt);
     let [accounts] = catalog.tables() else {
-        return Err(Fail::from("one table"));
+        panic!(rt; "one table");
     };
-    assert_same(accounts.namespace().as_str(), "public", "namespace")?;
-    assert_same(accounts.name().as_str(), "accounts", "name")?;
-    assert_columns(accounts.columns())?;
-    let text = KeptText::from_str(rt.alloc(), "x")?;
+    assert_same(accounts.namespace().as_str(), "public", "namespace").or_fail(&rt);
+    assert_same(accounts.name().as_str(), "accounts", "name").or_fail(&rt);
+    assert_columns(accounts.columns()).or_fail(&rt);
+    let text = KeptText::from_str(rt.alloc(), "x").or_fail(&rt);
     let defaults = [None, None, Some(Value::Text(text))];
-    assert_holds(accounts.defaults() == defaults.as_slice(), "defaults")
+    assert_holds(accounts.defaults() == defaults.as_slice(), "defaults").or_fail(&rt);
 }
 
 #[test]
-fn reads_the_keys_of_the_accounts(rt: HostRuntime) -> Result<(), Fail> {
-    let catalog = Catalog::read(rt.alloc(), CATALOG)?;
+fn reads_the_keys_of_the_accounts(rt: HostRuntime) {
+    let catalog = Catalog::read(rt.alloc(), CATALOG).or_fail(&rt);
     let [accounts] = catalog.tables() else {
-        return Err(Fail::from("one table"));
+        panic!(rt; "one table");
     };
-    assert_holds(accounts.primary().numbers() == [0].as_slice(), "primary")?;
+    assert_holds(accounts.primary().numbers() == [0].as_slice(), "primary").or_fail(&rt);
     let [email] = accounts.uniques() else {
-        return Err(Fail::from("one unique key"));
+        panic!(rt; "one unique key");
     };
-    assert_holds(email.numbers() == [1].as_slice(), "unique")
+    assert_holds(email.numbers() == [1].as_slice(), "unique").or_fail(&rt);
 }
 
 // Texts that are a catalog, and how many tables they have.
@@ -72,12 +73,11 @@ static TAKEN: [(&str, usize); 7] = [
 ];
 
 #[test]
-fn takes_what_is_a_catalog(rt: HostRuntime) -> Result<(), Fail> {
+fn takes_what_is_a_catalog(rt: HostRuntime) {
     for &(text, count) in &TAKEN {
-        let catalog = Catalog::read(rt.alloc(), text)?;
-        assert_same(catalog.tables().len(), count, text)?;
+        let catalog = Catalog::read(rt.alloc(), text).or_fail(&rt);
+        assert_same(catalog.tables().len(), count, text).or_fail(&rt);
     }
-    Ok(())
 }
 
 // Faults, and texts for which each is answered.
@@ -199,14 +199,13 @@ static REFUSED: [(CatalogFault, &[&str]); 13] = [
 ];
 
 #[test]
-fn answers_the_least_fault(rt: HostRuntime) -> Result<(), Fail> {
+fn answers_the_least_fault(rt: HostRuntime) {
     for &(fault, texts) in &REFUSED {
         for text in texts {
             let answer = Catalog::read(rt.alloc(), *text).err();
-            assert_same(answer, Some(fault), *text)?;
+            assert_same(answer, Some(fault), *text).or_fail(&rt);
         }
     }
-    Ok(())
 }
 
 // Appends a table with so many columns and unique keys.
@@ -259,11 +258,10 @@ static SIZES: [(usize, usize, usize, Option<CatalogFault>); 6] = [
 ];
 
 #[test]
-fn takes_up_to_the_limits(rt: HostRuntime) -> Result<(), Fail> {
+fn takes_up_to_the_limits(rt: HostRuntime) {
     for &(tables, columns, uniques, want) in &SIZES {
-        let text = large_text(rt.alloc(), tables, columns, uniques)?;
+        let text = large_text(rt.alloc(), tables, columns, uniques).or_fail(&rt);
         let fault = Catalog::read(rt.alloc(), text.as_str()).err();
-        assert_same(fault, want, tables)?;
+        assert_same(fault, want, tables).or_fail(&rt);
     }
-    Ok(())
 }

@@ -4,6 +4,7 @@ ghost use Rattle.std.specs.Io.KnownBytes.{Consumes};
 ghost use Rattle.frames.specs.Stream.{ending_of};
 ghost use Rattle.frames.specs.Reads.{HasRead, HasEnded, AtEndOf};
 
+use super::OrFail;
 use bytes::Bytes;
 use frames::{
     CopyItem, FrameFault, Frames, Lsn, ReadSource, Source, Status, WriteSink, send_status,
@@ -114,14 +115,13 @@ static ENDS: [(&[u8], Result<(), FrameFault>); 17] = [
 ];
 
 #[test]
-fn frames_that_are_refused(rt: HostRuntime) -> Result<(), Fail> {
+fn frames_that_are_refused(rt: HostRuntime) {
     for (case, (bytes, want)) in ENDS.iter().enumerate() {
         for size in [1, bytes.len()] {
-            let (_, end) = read_pieces(rt.alloc(), *bytes, size)?;
-            assert_same(end, *want, case)?;
+            let (_, end) = read_pieces(rt.alloc(), *bytes, size).or_fail(&rt);
+            assert_same(end, *want, case).or_fail(&rt);
         }
     }
-    Ok(())
 }
 
 // How many frames of the stream are whole within so many bytes.
@@ -133,15 +133,14 @@ fn whole_within(count: usize) -> usize {
 }
 
 #[test]
-fn a_source_that_fails_at_each_read(rt: HostRuntime) -> Result<(), Fail> {
+fn a_source_that_fails_at_each_read(rt: HostRuntime) {
     for fails_at in 0..=STREAM.len() {
         let mut source = Pieces::with_reads(STREAM, 1, fails_at as u64);
-        let (items, end) = read_all(rt.alloc(), &mut source)?;
-        assert_same(end, Err(FrameFault::Device), fails_at)?;
-        assert_same(source.failures(), 1, "failures")?;
-        assert_same(items.len(), whole_within(fails_at), fails_at)?;
+        let (items, end) = read_all(rt.alloc(), &mut source).or_fail(&rt);
+        assert_same(end, Err(FrameFault::Device), fails_at).or_fail(&rt);
+        assert_same(source.failures(), 1, "failures").or_fail(&rt);
+        assert_same(items.len(), whole_within(fails_at), fails_at).or_fail(&rt);
     }
-    Ok(())
 }
 
 // Where the payloads of its frames lie.
@@ -193,20 +192,22 @@ fn items_where_memory_is_refused(rt: HostRuntime) -> Result<(), Fail> {
 
 // Over std's readers: the payloads, and CopyDone, after which nothing is read.
 #[test]
-fn a_reader_up_to_copy_done(rt: HostRuntime) -> Result<(), Fail> {
-    let mut bytes = STREAM.to_vec(rt.alloc())?;
-    bytes.extend_from_slice(b"c\x00\x00\x00\x04d\x00")?;
+fn a_reader_up_to_copy_done(rt: HostRuntime) {
+    let mut bytes = STREAM.to_vec(rt.alloc()).or_fail(&rt);
+    bytes
+        .extend_from_slice(b"c\x00\x00\x00\x04d\x00")
+        .or_fail(&rt);
     let mut source = ReadSource::new(Cursor::new(bytes.as_slice()));
-    let (items, end) = read_all(rt.alloc(), &mut source)?;
-    assert_same(end, Ok(()), "end")?;
-    assert_same(items.len(), 5, "items")?;
+    let (items, end) = read_all(rt.alloc(), &mut source).or_fail(&rt);
+    assert_same(end, Ok(()), "end").or_fail(&rt);
+    assert_same(items.len(), 5, "items").or_fail(&rt);
     let commit = CopyItem::Wal {
         start: 0,
         end: 0,
         payload: Bytes::from_static(&STREAM[232..]),
     };
-    assert_same(items.as_slice().get(3), Some(&commit), "commit")?;
-    assert_same(items.as_slice().get(4), Some(&CopyItem::Done), "done")
+    assert_same(items.as_slice().get(3), Some(&commit), "commit").or_fail(&rt);
+    assert_same(items.as_slice().get(4), Some(&CopyItem::Done), "done").or_fail(&rt);
 }
 
 // Where a run is that has applied the stream's commit and has so much of the log, with the clock at 5.
@@ -240,35 +241,34 @@ static SENT: [(u64, usize, Result<(), FrameFault>); 3] = [
 ];
 
 #[test]
-fn status_updates(rt: HostRuntime) -> Result<(), Fail> {
+fn status_updates(rt: HostRuntime) {
     for &(written, want) in &UPDATES {
         let mut out = Vec::new(rt.alloc());
-        out.push(7)?;
-        assert_same(write_status(&status(written), &mut out), Ok(()), "written")?;
-        assert_same(out.as_slice().split_at(1).1, want, "update")?;
+        out.push(7).or_fail(&rt);
+        assert_same(write_status(&status(written), &mut out), Ok(()), "written").or_fail(&rt);
+        assert_same(out.as_slice().split_at(1).1, want, "update").or_fail(&rt);
         let mut sink = WriteSink::new(Vec::new(rt.alloc()));
         assert_same(
             send_status(rt.alloc(), &status(written), &mut sink),
             Ok(()),
             "sent",
-        )?;
+        )
+        .or_fail(&rt);
     }
-    Ok(())
 }
 
 #[test]
-fn status_updates_to_a_sink_that_fails(rt: HostRuntime) -> Result<(), Fail> {
+fn status_updates_to_a_sink_that_fails(rt: HostRuntime) {
     for &(written, want) in &UPDATES {
         for &(writes, taken, answer) in &SENT {
             let mut bytes = Vec::new(rt.alloc());
             let mut sink = Kept::with_writes(&mut bytes, 3, writes);
             let sent = send_status(rt.alloc(), &status(written), &mut sink);
             drop(sink);
-            assert_same(sent, answer, writes)?;
-            assert_same(Some(bytes.as_slice()), want.get(..taken), writes)?;
+            assert_same(sent, answer, writes).or_fail(&rt);
+            assert_same(Some(bytes.as_slice()), want.get(..taken), writes).or_fail(&rt);
         }
     }
-    Ok(())
 }
 
 // Where memory is refused, a status update is not written, and what was written before stays.

@@ -2,6 +2,7 @@
 
 ghost use Rattle.messages.specs.Messages.{HasXid};
 
+use super::OrFail;
 use super::hex::from_hex;
 use bytes::Bytes;
 use messages::{Message, MsgFault, decode, encode};
@@ -137,13 +138,12 @@ fn reading(alloc: Global, payload: &Bytes, in_block: bool) -> Result<String, All
 }
 
 #[test]
-fn each_case_reads_as_it_must(rt: HostRuntime) -> Result<(), Fail> {
+fn each_case_reads_as_it_must(rt: HostRuntime) {
     for line in CASES.lines() {
-        let (payload, in_block, answer) = case_of(rt.alloc(), line)?;
-        let read = reading(rt.alloc(), &payload, in_block)?;
-        assert_same(read.as_str(), answer, line)?;
+        let (payload, in_block, answer) = case_of(rt.alloc(), line).or_fail(&rt);
+        let read = reading(rt.alloc(), &payload, in_block).or_fail(&rt);
+        assert_same(read.as_str(), answer, line).or_fail(&rt);
     }
-    Ok(())
 }
 
 // What a payload spells, if it is a message, is written as this payload.
@@ -268,11 +268,10 @@ fn assert_read(alloc: Global, digits: &str, in_block: bool, want: &str) -> Resul
 }
 
 #[test]
-fn each_field_is_read_and_written(rt: HostRuntime) -> Result<(), Fail> {
+fn each_field_is_read_and_written(rt: HostRuntime) {
     for &(digits, in_block, want) in &PRINTED {
-        assert_read(rt.alloc(), digits, in_block, want)?;
+        assert_read(rt.alloc(), digits, in_block, want).or_fail(&rt);
     }
-    Ok(())
 }
 
 // One payload of each message that takes memory, and whether it stands in a block.

@@ -1,6 +1,6 @@
 // What no clause says: what a trace makes of a stream, in pieces of each length.
+use super::OrFail;
 use frames::{ReadSource, Source};
-use std::test::Fail;
 use testing::asserts::assert_same;
 use trace::{Counts, Place, Trace, Watched, Watcher};
 
@@ -41,19 +41,18 @@ const LAST: Place = Place {
 };
 
 #[test]
-fn a_stream_in_pieces_of_each_length(rt: HostRuntime) -> Result<(), Fail> {
+fn a_stream_in_pieces_of_each_length(rt: HostRuntime) {
     for size in 1..=STREAM.len() {
         let mut trace = Trace::new(rt.alloc());
         for piece in STREAM.chunks(size) {
             trace.pass(piece);
         }
-        assert_same(trace.counts(), COUNTS, size)?;
-        assert_same(trace.place(), LAST, size)?;
-        let relation = trace.relation().ok_or("no relation")?;
-        assert_same(relation.namespace.as_str(), "public", "namespace")?;
-        assert_same(relation.name.as_str(), "accounts", "name")?;
+        assert_same(trace.counts(), COUNTS, size).or_fail(&rt);
+        assert_same(trace.place(), LAST, size).or_fail(&rt);
+        let relation = trace.relation().expect(&rt, "no relation");
+        assert_same(relation.namespace.as_str(), "public", "namespace").or_fail(&rt);
+        assert_same(relation.name.as_str(), "accounts", "name").or_fail(&rt);
     }
-    Ok(())
 }
 
 /// Keeps how many frames were whole at each look.
@@ -68,7 +67,7 @@ impl Watcher for Looks<'_> {
 }
 
 #[test]
-fn a_read_stops_at_a_frame(rt: HostRuntime) -> Result<(), Fail> {
+fn a_read_stops_at_a_frame(rt: HostRuntime) {
     let mut trace = Trace::new(rt.alloc());
     let mut looks = Vec::new(rt.alloc());
     let mut read = Vec::new(rt.alloc());
@@ -80,15 +79,15 @@ fn a_read_stops_at_a_frame(rt: HostRuntime) -> Result<(), Fail> {
         let count = watched
             .read_some(&mut buf)
             .ok()
-            .ok_or("a read that failed")?;
-        read.extend_from_slice(&buf[..count])?;
+            .expect(&rt, "a read that failed");
+        read.extend_from_slice(&buf[..count]).or_fail(&rt);
     }
     drop(watched);
     drop(watcher);
-    assert_same(read.as_slice(), STREAM, "read")?;
+    assert_same(read.as_slice(), STREAM, "read").or_fail(&rt);
     // A header and its rest, seven times, and the end.
     let want = [0, 1, 1, 2, 2, 3, 3, 4, 4, 5, 5, 6, 6, 7, 7];
-    assert_same(looks.as_slice(), want.as_slice(), "looks")
+    assert_same(looks.as_slice(), want.as_slice(), "looks").or_fail(&rt);
 }
 
 /// What is no stream, and how many frames are counted of it.
@@ -100,13 +99,12 @@ static NO_STREAMS: [(&[u8], u64); 4] = [
 ];
 
 #[test]
-fn what_is_no_stream_is_counted(rt: HostRuntime) -> Result<(), Fail> {
+fn what_is_no_stream_is_counted(rt: HostRuntime) {
     for (case, (bytes, frames)) in NO_STREAMS.iter().enumerate() {
         let mut trace = Trace::new(rt.alloc());
         trace.pass(*bytes);
-        assert_same(trace.counts().bytes, bytes.len() as u64, case)?;
-        assert_same(trace.counts().frames, *frames, case)?;
-        assert_same(trace.place().message, None, case)?;
+        assert_same(trace.counts().bytes, bytes.len() as u64, case).or_fail(&rt);
+        assert_same(trace.counts().frames, *frames, case).or_fail(&rt);
+        assert_same(trace.place().message, None, case).or_fail(&rt);
     }
-    Ok(())
 }

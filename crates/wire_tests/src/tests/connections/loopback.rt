@@ -1,5 +1,6 @@
 // Both sides of a connection over a socket of this machine. Where what is sent fits the system's
 // buffers, one thread plays both.
+use crate::tests::OrFail;
 use frames::{
     CopyItem, FrameFault, Frames, ReadSource, Source, Status, WriteSink, send_status, write_status,
 };
@@ -60,40 +61,41 @@ fn read_all<R: Source + Drop>(alloc: Global, mut source: R) -> (usize, Result<()
 }
 
 #[test]
-fn the_other_side_closes_at_a_frames_edge(rt: HostRuntime) -> Result<(), Fail> {
-    let (connection, mut peer) = pair(&rt)?;
-    peer.write_all(keepalives(rt.alloc())?.as_slice())?;
+fn the_other_side_closes_at_a_frames_edge(rt: HostRuntime) {
+    let (connection, mut peer) = pair(&rt).or_fail(&rt);
+    peer.write_all(keepalives(rt.alloc()).or_fail(&rt).as_slice())
+        .or_fail(&rt);
     drop(peer);
     let (count, end) = read_all(rt.alloc(), connection.source());
-    assert_same(count, 3, "count")?;
-    assert_same(end, Ok(()), "end")
+    assert_same(count, 3, "count").or_fail(&rt);
+    assert_same(end, Ok(()), "end").or_fail(&rt);
 }
 
 #[test]
-fn the_other_side_closes_within_a_frame(rt: HostRuntime) -> Result<(), Fail> {
-    let (connection, mut peer) = pair(&rt)?;
-    let mut bytes = keepalives(rt.alloc())?;
+fn the_other_side_closes_within_a_frame(rt: HostRuntime) {
+    let (connection, mut peer) = pair(&rt).or_fail(&rt);
+    let mut bytes = keepalives(rt.alloc()).or_fail(&rt);
     bytes.pop();
-    peer.write_all(bytes.as_slice())?;
+    peer.write_all(bytes.as_slice()).or_fail(&rt);
     drop(peer);
     let (count, end) = read_all(rt.alloc(), connection.source());
-    assert_same(count, 2, "count")?;
-    assert_same(end, Err(FrameFault::Truncated), "end")
+    assert_same(count, 2, "count").or_fail(&rt);
+    assert_same(end, Err(FrameFault::Truncated), "end").or_fail(&rt);
 }
 
 /// A side that closes before it has read what came breaks the connection.
 #[test]
-fn a_connection_that_breaks(rt: HostRuntime) -> Result<(), Fail> {
-    let (connection, peer) = pair(&rt)?;
-    send_status(rt.alloc(), &STATUS, &mut connection.sink())?;
-    assert_same(peer.peek(&mut [0u8; 1])?, 1, "peek")?;
+fn a_connection_that_breaks(rt: HostRuntime) {
+    let (connection, peer) = pair(&rt).or_fail(&rt);
+    send_status(rt.alloc(), &STATUS, &mut connection.sink()).or_fail(&rt);
+    assert_same(peer.peek(&mut [0u8; 1]).or_fail(&rt), 1, "peek").or_fail(&rt);
     drop(peer);
     let (count, end) = read_all(rt.alloc(), connection.source());
-    assert_same(count, 0, "count")?;
-    assert_same(end, Err(FrameFault::Device), "end")?;
+    assert_same(count, 0, "count").or_fail(&rt);
+    assert_same(end, Err(FrameFault::Device), "end").or_fail(&rt);
     let mut sink = connection.sink();
     let sent = send_status(rt.alloc(), &STATUS, &mut sink);
-    assert_same(sent, Err(FrameFault::Device), "sent")
+    assert_same(sent, Err(FrameFault::Device), "sent").or_fail(&rt);
 }
 
 /// Sends bytes one at a time, and then hears until the other side closes. It answers what came, or
@@ -120,12 +122,12 @@ fn assert_update(alloc: Global, heard: &[u8]) -> Result<(), Fail> {
 }
 
 #[test]
-fn bytes_one_at_a_time_and_updates_that_come_back(rt: HostRuntime) -> Result<(), Fail> {
+fn bytes_one_at_a_time_and_updates_that_come_back(rt: HostRuntime) {
     let alloc = rt.alloc();
-    let (connection, peer) = pair(&rt)?;
-    peer.set_nodelay(true)?;
-    let mut bytes = keepalives(alloc)?;
-    bytes.extend_from_slice(COPY_DONE)?;
+    let (connection, peer) = pair(&rt).or_fail(&rt);
+    peer.set_nodelay(true).or_fail(&rt);
+    let mut bytes = keepalives(alloc).or_fail(&rt);
+    bytes.extend_from_slice(COPY_DONE).or_fail(&rt);
     let told = bytes.as_slice();
     let ((count, end, sent), heard) = thread::join(
         &rt,
@@ -137,27 +139,28 @@ fn bytes_one_at_a_time_and_updates_that_come_back(rt: HostRuntime) -> Result<(),
         },
         || tell_slowly(alloc, peer, told),
     );
-    assert_same((count, end, sent), (3, Ok(()), Ok(())), "ends")?;
-    assert_update(alloc, heard.as_slice())
+    assert_same((count, end, sent), (3, Ok(()), Ok(())), "ends").or_fail(&rt);
+    assert_update(alloc, heard.as_slice()).or_fail(&rt);
 }
 
 #[test]
-fn ends_that_are_kept_apart(rt: HostRuntime) -> Result<(), Fail> {
+fn ends_that_are_kept_apart(rt: HostRuntime) {
     let alloc = rt.alloc();
-    let (connection, mut peer) = pair(&rt)?;
-    peer.write_all(keepalives(alloc)?.as_slice())?;
-    peer.shutdown(Shutdown::Write)?;
-    let (read, written) = connection.into_ends()?;
+    let (connection, mut peer) = pair(&rt).or_fail(&rt);
+    peer.write_all(keepalives(alloc).or_fail(&rt).as_slice())
+        .or_fail(&rt);
+    peer.shutdown(Shutdown::Write).or_fail(&rt);
+    let (read, written) = connection.into_ends().or_fail(&rt);
     let (count, end) = read_all(alloc, ReadSource::new(read));
-    assert_same((count, end), (3, Ok(())), "end")?;
-    send_status(alloc, &STATUS, &mut WriteSink::new(written))?;
+    assert_same((count, end), (3, Ok(())), "end").or_fail(&rt);
+    send_status(alloc, &STATUS, &mut WriteSink::new(written)).or_fail(&rt);
     let mut heard = Vec::new(alloc);
-    peer.read_to_end(&mut heard)?;
-    assert_update(alloc, heard.as_slice())
+    peer.read_to_end(&mut heard).or_fail(&rt);
+    assert_update(alloc, heard.as_slice()).or_fail(&rt);
 }
 
 #[test]
-fn what_is_no_host_and_port_is_refused(rt: HostRuntime) -> Result<(), Fail> {
+fn what_is_no_host_and_port_is_refused(rt: HostRuntime) {
     for address in [
         "",
         ":",
@@ -173,9 +176,8 @@ fn what_is_no_host_and_port_is_refused(rt: HostRuntime) -> Result<(), Fail> {
         "[::1]",
         "/tmp:x",
     ] {
-        assert_holds(Connection::open(&rt, address).is_err(), address)?;
+        assert_holds(Connection::open(&rt, address).is_err(), address).or_fail(&rt);
     }
-    Ok(())
 }
 
 #[test]

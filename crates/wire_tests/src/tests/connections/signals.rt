@@ -1,4 +1,5 @@
 // A stream whose calls a signal interrupts.
+use crate::tests::OrFail;
 use std::io;
 use std::io::{ErrorKind, Read, Write};
 use std::test::Fail;
@@ -69,15 +70,15 @@ fn assert_taken(stream: &mut Retried<Shaken<'_>>) -> Result<(), Fail> {
 }
 
 #[test]
-fn an_interrupted_call_is_tried_again(rt: HostRuntime) -> Result<(), Fail> {
+fn an_interrupted_call_is_tried_again(rt: HostRuntime) {
     let mut taken = Vec::new(rt.alloc());
     let mut stream = Retried::new(Shaken {
         input: b"stream",
         taken: &mut taken,
         is_interrupted: false,
     });
-    assert_read(&mut stream)?;
-    assert_taken(&mut stream)?;
+    assert_read(&mut stream).or_fail(&rt);
+    assert_taken(&mut stream).or_fail(&rt);
     drop(stream);
-    assert_same(taken.as_slice(), b"up".as_slice(), "taken")
+    assert_same(taken.as_slice(), b"up".as_slice(), "taken").or_fail(&rt);
 }
