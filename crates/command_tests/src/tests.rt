@@ -10,11 +10,13 @@
 //   opens          which transactions are open where a stream stops
 //   output         what is said where a command can't go on
 //   command_line   options, their limits, and help
+//   mirror_line    those of `mirror`
 mod accounts;
 mod cases;
 mod command_line;
 mod devices;
 mod follow;
+mod mirror_line;
 mod mistakes;
 mod opens;
 mod output;

@@ -6,7 +6,11 @@
 // Each message stands in a frame of its own. A stream takes memory only as its bytes grow, so that a test
 // in which memory is refused asks for little itself.
 //
-// It stands on `model` for what a message names, and on `itoa`.
+//   story    a stream of seven commits, and what each leaves
+//
+// It stands on `model` for what a message names, on `testing` for the table, and on `itoa`.
+pub mod story;
+
 use itoa::Buffer;
 use model::{Lsn, OutOfMemory, Xid};
 use std::alloc::Global;

@@ -1,17 +1,21 @@
 // The files, and what each tests or gives the others.
 //
+//   applied       `mirror_source`, what of a stream is left out, and whose stream it is
 //   catalogs      `catalog`
 //   connections   `tcp`
+//   epochs        `mirror_source`, where an epoch ends, and what it begins with
 //   framing       `frames`
 //   payloads      `messages`
-//   streams       `session`, and `relcache` through it
+//   sessions      `session`, and `relcache` through it
 //   traces        `trace`
+mod applied;
 mod catalogs;
 mod connections;
+mod epochs;
 mod framing;
 mod hex;
 mod payloads;
-mod streams;
+mod sessions;
 mod traces;
 
 use std::process::{Abort, Termination};

@@ -2,7 +2,6 @@
 use super::files::{Store, open_again, open_new, position_of};
 use super::following::assert_file;
 use super::rounds::{Plan, follow};
-use super::story::{LEFT, Left, stream_of};
 use leader::{End, Lsn};
 use sqlite::Connection;
 use std::alloc::Global;
@@ -10,6 +9,7 @@ use std::sync::Wait;
 use std::test::Fail;
 use std::thread::Threads;
 use std::time::Clock;
+use streams::story::{LEFT, Left, stream_of};
 use testing::asserts::{assert_holds, assert_same};
 
 /// The most that a status update among these says of what was flushed.

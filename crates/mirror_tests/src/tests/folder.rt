@@ -2,12 +2,12 @@
 use super::failing::{left_at, most_flushed};
 use super::files::{Store, open_new, position_of, rows_of};
 use super::rounds::{Plan, follow};
-use super::story::stream_of;
 use leader::Lsn;
 use sqlite::Connection;
 use sqlite_file::{SqliteFile, copy_file};
 use std::test::Fail;
 use std::{env, fs, process};
+use streams::story::stream_of;
 use testing::asserts::{assert_holds, assert_same};
 
 /// A file of the system with its log, and where a copy of it is put.

@@ -1,7 +1,6 @@
 // Files behind streams that are cut, and in epochs of each size.
 use super::files::{Store, open_again, open_new, position_of, rows_of};
 use super::rounds::{Plan, catalog, follow};
-use super::story::{LEFT, Left, stream_of};
 use leader::{Catalog, End, Tables};
 use mirror_file::{FileFault, note_system, open};
 use sqlite::Connection;
@@ -11,6 +10,7 @@ use std::sync::Wait;
 use std::test::Fail;
 use std::thread::Threads;
 use std::time::Clock;
+use streams::story::{LEFT, Left, stream_of};
 use testing::asserts::{assert_holds, assert_same};
 
 /// A new file that doesn't fail.

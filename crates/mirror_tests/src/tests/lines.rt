@@ -1,7 +1,6 @@
 // Lines of JSON.
 use super::failing::most_flushed;
 use super::rounds::{Ended, Plan, catalog, epochs_of, run_epoch};
-use super::story::{LEFT, Left, stream_of};
 use leader::{Catalog, OutOfMemory, Tables};
 use mirror_run::LineKeep;
 use std::alloc::Global;
@@ -11,6 +10,7 @@ use std::sync::Wait;
 use std::test::Fail;
 use std::thread::Threads;
 use std::time::Clock;
+use streams::story::{LEFT, Left, stream_of};
 use testing::asserts::{assert_holds, assert_same};
 
 /// Takes lines, and fails behind so many writes.

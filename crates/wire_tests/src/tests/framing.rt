@@ -246,7 +246,7 @@ fn status_updates(rt: HostRuntime) {
         let mut out = Vec::new(rt.alloc());
         out.push(7).or_fail(&rt);
         assert_same(write_status(&status(written), &mut out), Ok(()), "written").or_fail(&rt);
-        assert_same(out.as_slice().split_at(1).1, want, "update").or_fail(&rt);
+        assert_same(out.as_slice().get(1..), Some(want), "update").or_fail(&rt);
         let mut sink = WriteSink::new(Vec::new(rt.alloc()));
         assert_same(
             send_status(rt.alloc(), &status(written), &mut sink),

@@ -1,4 +1,4 @@
-// What a command line asks for: the limits of its numbers, what stands where none was given, and
+// What a command line of `mirror` asks for: the limits of its numbers, what stands where none was given, and
 // faults of usage.
 use leader::Config;
 use mirror_command::options;

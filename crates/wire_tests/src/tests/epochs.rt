@@ -1,10 +1,11 @@
 // Where an epoch ends, and what it begins with.
-use super::story::{TOLD, push_parts, stream_of};
+use super::OrFail;
 use frames::{Failed, Source};
 use mirror_source::{Applied, Cut, Epochs, Limits};
 use std::alloc::Global;
 use std::test::Fail;
 use streams::Stream;
+use streams::story::{TOLD, push_parts, stream_of};
 use testing::asserts::{assert_holds, assert_same};
 use testing::devices::Pieces;
 
@@ -92,18 +93,17 @@ fn assert_epochs(alloc: Global, bytes: &[u8], case: &Case) -> Result<(), Fail> {
 }
 
 #[test]
-fn epochs_of_so_many_commits(rt: HostRuntime) -> Result<(), Fail> {
-    let stream = stream_of(rt.alloc(), 7)?;
+fn epochs_of_so_many_commits(rt: HostRuntime) {
+    let stream = stream_of(rt.alloc(), 7).or_fail(&rt);
     for case in &CASES {
-        assert_epochs(rt.alloc(), stream.bytes(), case)?;
+        assert_epochs(rt.alloc(), stream.bytes(), case).or_fail(&rt);
     }
-    Ok(())
 }
 
 #[test]
-fn an_epoch_ends_behind_so_many_bytes(rt: HostRuntime) -> Result<(), Fail> {
-    let first = stream_of(rt.alloc(), 1)?;
-    let stream = stream_of(rt.alloc(), 7)?;
+fn an_epoch_ends_behind_so_many_bytes(rt: HostRuntime) {
+    let first = stream_of(rt.alloc(), 1).or_fail(&rt);
+    let stream = stream_of(rt.alloc(), 7).or_fail(&rt);
     let limits = Limits {
         commits: u64::MAX,
         bytes: first.bytes().len() as u64,
@@ -111,13 +111,13 @@ fn an_epoch_ends_behind_so_many_bytes(rt: HostRuntime) -> Result<(), Fail> {
     };
     let applied = Applied::new(0, Vec::new(rt.alloc()));
     let source = Pieces::new(stream.bytes(), 4096);
-    let mut epochs = Epochs::new(rt.alloc(), source, applied, limits)?;
-    assert_epoch(rt.alloc(), &mut epochs, 0, 1, Cut::AtLimit)
+    let mut epochs = Epochs::new(rt.alloc(), source, applied, limits).or_fail(&rt);
+    assert_epoch(rt.alloc(), &mut epochs, 0, 1, Cut::AtLimit).or_fail(&rt);
 }
 
 #[test]
-fn what_stays_open_all_along_fills_an_epoch(rt: HostRuntime) -> Result<(), Fail> {
-    let stream = stream_of(rt.alloc(), 3)?;
+fn what_stays_open_all_along_fills_an_epoch(rt: HostRuntime) {
+    let stream = stream_of(rt.alloc(), 3).or_fail(&rt);
     let limits = Limits {
         commits: 1,
         bytes: 1,
@@ -125,26 +125,25 @@ fn what_stays_open_all_along_fills_an_epoch(rt: HostRuntime) -> Result<(), Fail>
     };
     let applied = Applied::new(0x140, Vec::new(rt.alloc()));
     let source = Pieces::new(stream.bytes(), 4096);
-    let mut epochs = Epochs::new(rt.alloc(), source, applied, limits)?;
+    let mut epochs = Epochs::new(rt.alloc(), source, applied, limits).or_fail(&rt);
     for _ in 0..9 {
-        let _read = read_epoch(rt.alloc(), &mut epochs)?;
+        let _read = read_epoch(rt.alloc(), &mut epochs).or_fail(&rt);
         if epochs.cut() != Cut::AtLimit {
             break;
         }
-        epochs.begin_next()?;
+        epochs.begin_next().or_fail(&rt);
     }
-    assert_same(epochs.cut(), Cut::Full, "cut")
+    assert_same(epochs.cut(), Cut::Full, "cut").or_fail(&rt);
 }
 
 #[test]
-fn a_source_that_fails_at_each_read(rt: HostRuntime) -> Result<(), Fail> {
-    let stream = stream_of(rt.alloc(), 7)?;
+fn a_source_that_fails_at_each_read(rt: HostRuntime) {
+    let stream = stream_of(rt.alloc(), 7).or_fail(&rt);
     for reads in 0..20 {
         let source = Pieces::with_reads(stream.bytes(), 60, reads);
         let applied = Applied::new(0, Vec::new(rt.alloc()));
-        let mut epochs = Epochs::new(rt.alloc(), source, applied, behind(8))?;
-        assert_holds(read_epoch(rt.alloc(), &mut epochs).is_err(), reads)?;
-        assert_holds(epochs.read_some(&mut [0u8; 9]).is_err(), reads)?;
+        let mut epochs = Epochs::new(rt.alloc(), source, applied, behind(8)).or_fail(&rt);
+        assert_holds(read_epoch(rt.alloc(), &mut epochs).is_err(), reads).or_fail(&rt);
+        assert_holds(epochs.read_some(&mut [0u8; 9]).is_err(), reads).or_fail(&rt);
     }
-    Ok(())
 }

@@ -1,10 +1,11 @@
 // What of a stream is left out, since a file has it, and whose stream it is.
+use super::OrFail;
 use super::epochs::read_epoch;
-use super::story::{TOLD, push_all, push_parts, stream_of};
-use leader::Lsn;
 use mirror_source::{Applied, Epochs, Limits, find_applied};
+use model::Lsn;
 use std::alloc::Global;
 use std::test::Fail;
+use streams::story::{TOLD, push_all, push_parts, stream_of};
 use streams::{Column, Message, Stream};
 use testing::accounts::RELATION;
 use testing::asserts::{assert_holds, assert_same};
@@ -82,16 +83,15 @@ fn handed_on(alloc: Global, bytes: &[u8], position: Lsn) -> Result<Vec<u8>, Fail
 }
 
 #[test]
-fn what_a_file_has_is_left_out(rt: HostRuntime) -> Result<(), Fail> {
-    let stream = stream_of(rt.alloc(), 7)?;
+fn what_a_file_has_is_left_out(rt: HostRuntime) {
+    let stream = stream_of(rt.alloc(), 7).or_fail(&rt);
     for case in &CASES {
-        let read = handed_on(rt.alloc(), stream.bytes(), case.position)?;
+        let read = handed_on(rt.alloc(), stream.bytes(), case.position).or_fail(&rt);
         let mut want = Stream::new(rt.alloc());
-        push_all(&mut want, case.front)?;
-        push_parts(&mut want, case.from, 8)?;
-        assert_same(read.as_slice(), want.bytes(), case.position)?;
+        push_all(&mut want, case.front).or_fail(&rt);
+        push_parts(&mut want, case.from, 8).or_fail(&rt);
+        assert_same(read.as_slice(), want.bytes(), case.position).or_fail(&rt);
     }
-    Ok(())
 }
 
 /// A copy of rows as `publisher` puts it, whose commit ends where it begins, and the first commit of the
@@ -118,18 +118,17 @@ static COPIES: [(Lsn, &[Message], &[Message]); 4] = [
 ];
 
 #[test]
-fn a_copy_that_a_file_ends_with_is_left_out(rt: HostRuntime) -> Result<(), Fail> {
+fn a_copy_that_a_file_ends_with_is_left_out(rt: HostRuntime) {
     let mut stream = Stream::new(rt.alloc());
-    push_all(&mut stream, &COPIED)?;
-    push_all(&mut stream, &BEHIND)?;
+    push_all(&mut stream, &COPIED).or_fail(&rt);
+    push_all(&mut stream, &BEHIND).or_fail(&rt);
     for (position, front, rest) in &COPIES {
-        let read = handed_on(rt.alloc(), stream.bytes(), *position)?;
+        let read = handed_on(rt.alloc(), stream.bytes(), *position).or_fail(&rt);
         let mut want = Stream::new(rt.alloc());
-        push_all(&mut want, *front)?;
-        push_all(&mut want, *rest)?;
-        assert_same(read.as_slice(), want.bytes(), *position)?;
+        push_all(&mut want, *front).or_fail(&rt);
+        push_all(&mut want, *rest).or_fail(&rt);
+        assert_same(read.as_slice(), want.bytes(), *position).or_fail(&rt);
     }
-    Ok(())
 }
 
 /// A notice as `publisher` puts it at the front, and one of another kind.
@@ -147,18 +146,17 @@ static FRONTS: [(&[Message], Option<&str>); 4] = [
 ];
 
 #[test]
-fn whose_stream_it_is(rt: HostRuntime) -> Result<(), Fail> {
+fn whose_stream_it_is(rt: HostRuntime) {
     for (front, want) in &FRONTS {
         let mut stream = Stream::new(rt.alloc());
-        push_all(&mut stream, *front)?;
-        push_parts(&mut stream, 0, 1)?;
+        push_all(&mut stream, *front).or_fail(&rt);
+        push_parts(&mut stream, 0, 1).or_fail(&rt);
         let source = Pieces::new(stream.bytes(), 30);
         let applied = Applied::new(0, Vec::new(rt.alloc()));
-        let mut epochs = Epochs::new(rt.alloc(), source, applied, WHOLE)?;
-        let system = epochs.system()?;
-        assert_holds(system.as_ref().map(|text| text.as_str()) == *want, "system")?;
-        let read = read_epoch(rt.alloc(), &mut epochs)?;
-        assert_same(read.as_slice(), stream.bytes(), "stream")?;
+        let mut epochs = Epochs::new(rt.alloc(), source, applied, WHOLE).or_fail(&rt);
+        let system = epochs.system().or_fail(&rt);
+        assert_holds(system.as_ref().map(|text| text.as_str()) == *want, "system").or_fail(&rt);
+        let read = read_epoch(rt.alloc(), &mut epochs).or_fail(&rt);
+        assert_same(read.as_slice(), stream.bytes(), "stream").or_fail(&rt);
     }
-    Ok(())
 }

@@ -1,7 +1,7 @@
 // A stream of seven commits, what each leaves, and its lines.
-use leader::{Lsn, OutOfMemory};
+use crate::{Column, Message, Stream, WHOLE};
+use model::{Lsn, OutOfMemory};
 use std::alloc::Global;
-use streams::{Column, Message, Stream, WHOLE};
 use testing::accounts::RELATION;
 
 /// The relation of the table, outside of a block.
