@@ -18,6 +18,7 @@ crates/pgapply/out). The kinds:
     many      N / 10 small transactions: four inserts, three updates, a delete each
     beside    four streamed transactions of N / 4 inserts each into one table, whose blocks come by turns
     apart     the same, each into a table of its own
+    keyed     the same, each into a table whose key is two texts, with two unique keys
     saved     one streamed transaction of N inserts, in subtransactions of ten thousand that stay
     undone    one streamed transaction of N inserts with two unique keys, that isn't committed
     wide      one transaction of N / 10 rows of 50 columns
@@ -144,10 +145,10 @@ def one(count):
     return [MAIL], streamed([(700, MAIL, Rows(mail, 1, count))], 4)
 
 
-def four(tables, count):
+def four(tables, count, row=mail):
     """Four streamed transactions, one into each of these tables."""
     each = count // 4
-    parts = [(700 + n, table, Rows(mail, 1 + n * each, each)) for n, table in enumerate(tables)]
+    parts = [(700 + n, table, Rows(row, 1 + n * each, each)) for n, table in enumerate(tables)]
     return streamed(parts, max(1, each // 1000))
 
 
@@ -158,6 +159,13 @@ def beside(count):
 def apart(count):
     tables = [replace(MAIL, name=f"mail{n}", oid=MAIL.oid + n) for n in range(4)]
     return tables, four(tables, count)
+
+
+def keyed(count):
+    table = Table("person", "tttii", [0, 1], [[2], [3]])
+    row = lambda number: [f"country {number % 97}", f"person {number}", f"user{number}@example.org", number, number % 89]
+    tables = [replace(table, name=f"person{n}", oid=table.oid + n) for n in range(4)]
+    return tables, four(tables, count, row)
 
 
 def many(count):
@@ -260,7 +268,7 @@ def rolled(count):
     return [MAIL], in_subtransactions(count, True)
 
 
-KINDS = {kind.__name__: kind for kind in (one, many, beside, apart, saved, undone, wide, pairs, updates, churn, aborted, rolled)}
+KINDS = {kind.__name__: kind for kind in (one, many, beside, apart, keyed, saved, undone, wide, pairs, updates, churn, aborted, rolled)}
 
 
 def write_stream(path, messages):

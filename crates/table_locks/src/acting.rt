@@ -87,7 +87,7 @@ impl<N: StoreNames> Store<N> {
         ensures events { ticket.new.events ≡ ticket.old.events ++ events_of sub c.now (told result) }
         ensures xid { ticket.new.number ≡ ticket.old.number }
     {
-        let mut guard = self.lock_table(rt, table);
+        let mut guard = self.lock_for_change(rt, table);
         if guard.is_stopped() {
             return Err(ticket.refuse(EngineFault::Stopped));
         }

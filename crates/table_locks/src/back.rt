@@ -7,7 +7,7 @@ ghost use Rattle.engine.specs.Events.{touch_events};
 ghost use Rattle.parted_store.specs.Touching.{IsRefusal};
 ghost use Rattle.table_locks.specs.Tickets.{waits_after as after};
 
-use crate::locks::{lend_its, no_guards, put_each};
+use crate::locks::{lend_its, no_guards, no_guards_of_few, put_each};
 use crate::names::StoreNames;
 use crate::stopping::count_in;
 use crate::store::Store;
@@ -26,8 +26,13 @@ impl<N: StoreNames> Store<N> {
         ensures events { ticket.new.events ≡ ticket.old.events ++ Done (BackTo sub) ∷ [] }
         ensures xid { ticket.new.number ≡ ticket.old.number }
     {
-        let mut guards = no_guards(self);
-        self.back_with(rt, &mut guards, ticket, sub);
+        if self.has_few_tables() {
+            let mut guards = no_guards_of_few(self);
+            self.back_with(rt, &mut guards, ticket, sub);
+        } else {
+            let mut guards = no_guards(self);
+            self.back_with(rt, &mut guards, ticket, sub);
+        }
     }
 
     // With the places in which its guards are to lie.

@@ -11,7 +11,7 @@ ghost use Rattle.table_locks.specs.Tickets.{IsTicketOf};
 use crate::commits::TableCommit;
 use crate::hidden::wait_for_ever;
 use crate::journal::Journal;
-use crate::locks::{lend_its, no_guards, put_each};
+use crate::locks::{lend_its, no_guards, no_guards_of_few, put_each};
 use crate::names::StoreNames;
 use crate::store::Store;
 use crate::table_part::TablePart;
@@ -38,8 +38,13 @@ impl<N: StoreNames> Store<N> {
         ensures name { line.new.name ≡ N.line }
         ensures appended { line.new.list ≡ line.old.list ++ WasCommitted ticket.number (opened_by ticket.events).items info ∷ [] }
     {
-        let mut guards = no_guards(self);
-        self.commit_with(rt, &mut guards, line, ticket, info)
+        if self.has_few_tables() {
+            let mut guards = no_guards_of_few(self);
+            self.commit_with(rt, &mut guards, line, ticket, info)
+        } else {
+            let mut guards = no_guards(self);
+            self.commit_with(rt, &mut guards, line, ticket, info)
+        }
     }
 
     // With the places in which its guards are to lie.
@@ -84,8 +89,13 @@ impl<N: StoreNames> Store<N> {
         ensures name { line.new.name ≡ N.line }
         ensures appended { line.new.list ≡ line.old.list ++ WasAborted ticket.number ∷ [] }
     {
-        let mut guards = no_guards(self);
-        self.abort_with(rt, &mut guards, line, ticket);
+        if self.has_few_tables() {
+            let mut guards = no_guards_of_few(self);
+            self.abort_with(rt, &mut guards, line, ticket);
+        } else {
+            let mut guards = no_guards(self);
+            self.abort_with(rt, &mut guards, line, ticket);
+        }
     }
 
     // With the places in which its guards are to lie.

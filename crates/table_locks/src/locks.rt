@@ -16,6 +16,9 @@ use std::sync::{MutexGuard, Wait};
 /// As many tables as a catalog may have: so many guards a call has room for.
 pub(crate) const MOST_TABLES: usize = 1024;
 
+/// Over a catalog of so many tables or fewer a call has less room, of which less is cleared each time.
+pub(crate) const FEW_TABLES: usize = 8;
+
 /// Which tables a call needs.
 pub(crate) trait Needs {
     ghost use Rattle.std.specs.Prelude.{◌≡◌, ℕ, Bool};
@@ -43,6 +46,13 @@ impl Needs for parted_store::Ticket {
 pub(crate) fn no_guards<'a, N: StoreNames>(
     store: &'a Store<N>,
 ) -> [Option<MutexGuard<'a, TablePart<N>>>; MOST_TABLES] {
+    array::from_fn(|_| no_guard(store))
+}
+
+/// The same where few tables are all.
+pub(crate) fn no_guards_of_few<'a, N: StoreNames>(
+    store: &'a Store<N>,
+) -> [Option<MutexGuard<'a, TablePart<N>>>; FEW_TABLES] {
     array::from_fn(|_| no_guard(store))
 }
 

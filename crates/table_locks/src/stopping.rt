@@ -4,7 +4,7 @@ ghost use Rattle.table_locks.specs.Lending.{state_of};
 ghost use Rattle.table_locks.specs.Reading.{IsLockedAt};
 
 use crate::journal::Journal;
-use crate::locks::no_guards;
+use crate::locks::{no_guards, no_guards_of_few};
 use crate::names::StoreNames;
 use crate::store::Store;
 use crate::stuck::is_sent_count;
@@ -32,8 +32,13 @@ impl<N: StoreNames> Store<N> {
         requires { line.now.name ≡ N.line }
     {
         let _ = line;
-        let mut guards = no_guards(self);
-        self.stop_with(rt, &mut guards, waiter, sent)
+        if self.has_few_tables() {
+            let mut guards = no_guards_of_few(self);
+            self.stop_with(rt, &mut guards, waiter, sent)
+        } else {
+            let mut guards = no_guards(self);
+            self.stop_with(rt, &mut guards, waiter, sent)
+        }
     }
 
     // With the places in which its guards are to lie.

@@ -1,5 +1,5 @@
 // The store.
-ghost use Rattle.std.specs.Prelude.{◌≡◌, ◌++◌, ◌∷◌, [], ◌<◌, ◌≤◌, IfOk, IfErr, OnOk, OnErr, length, vec_capacity};
+ghost use Rattle.std.specs.Prelude.{◌≡◌, ◌++◌, ◌∷◌, [], ◌<◌, ◌≤◌, true, IfOk, IfErr, OnOk, OnErr, length, vec_capacity};
 ghost use Rattle.std.specs.Sync.Mutex.{mutex_guard_value};
 ghost use Rattle.live_tables.specs.Answers.{IsNoClash};
 ghost use Rattle.engine.specs.declared.events.LineEvent.TheVariants.{Opened as WasOpened};
@@ -7,6 +7,7 @@ ghost use Rattle.table_locks.specs.Starts.{AreNames, AreKnown};
 
 use crate::hidden::wait_for_ever;
 use crate::journal::Journal;
+use crate::locks::FEW_TABLES;
 use crate::made::Made;
 use crate::names::StoreNames;
 use crate::table_part::TablePart;
@@ -18,6 +19,14 @@ use parted_store::Line;
 use std::alloc::Global;
 use std::marker::Model;
 use std::sync::{Condvar, Mutex, MutexGuard, Wait};
+use std::thread::Parker;
+use std::time::Duration;
+
+// How often a table's lock is tried again before it is waited for.
+const TRIES: usize = 100;
+
+// How long a nap between two tries is, in microseconds.
+const NAP: u64 = 10;
 
 /// A store with a lock for each table, and one for the journal.
 #[derive(Debug, Drop)]
@@ -83,9 +92,34 @@ impl<N: StoreNames> Store<N> {
         wait_for_ever(rt)
     }
 
+    // The same for one change of many. Whoever waits for a lock has it handed over, which costs two threads a
+    // switch for each change; so who finds it taken naps, and lets the other make some changes meanwhile.
+    pub(crate) fn lock_for_change<R: Wait>(
+        &self,
+        rt: &R,
+        table: TableId,
+    ) -> MutexGuard<'_, TablePart<N>>
+        requires { table < length N.schema }
+        ensures { (mutex_guard_value result).number ≡ table }
+    {
+        if let Some(guard) = nap_for(rt, &self.tables[table])
+            && guard.number() == table
+        {
+            return guard;
+        }
+        self.lock_table(rt, table)
+    }
+
     /// What lies under the journal's lock, lent until the guard is dropped.
     pub fn lock_journal<R: Wait>(&self, rt: &R) -> MutexGuard<'_, Journal<N>> {
         self.journal.lock(rt)
+    }
+
+    // Whether all tables have a place where few have.
+    pub(crate) fn has_few_tables(&self) -> bool
+        ensures { result ≡ true → length N.schema ≤ 8 }
+    {
+        self.tables.len() <= FEW_TABLES
     }
 
     /// How often something moved.
@@ -127,4 +161,22 @@ impl<N: StoreNames> Store<N> {
     {
         self.journal.lock(rt).open(alloc, line, xid)
     }
+}
+
+// Takes a table's lock, unless it stays taken while this thread naps a hundred times.
+fn nap_for<'a, N: StoreNames, R: Wait>(
+    rt: &R,
+    table: &'a Mutex<TablePart<N>>,
+) -> Option<MutexGuard<'a, TablePart<N>>> {
+    if let Some(guard) = table.try_lock() {
+        return Some(guard);
+    }
+    let parker = Parker::new();
+    for _ in 0..TRIES {
+        parker.park_timeout(rt, Duration::from_micros(NAP));
+        if let Some(guard) = table.try_lock() {
+            return Some(guard);
+        }
+    }
+    None
 }
