@@ -4,6 +4,7 @@ ghost use Rattle.table_locks.specs.Starts.{AreNames};
 
 use crate::tests::locks::stage::{Stage, has_ids};
 use crate::tests::locks::table::{FIRST, SECOND, empty_store, key, put, remove, wipe_both};
+use crate::tests::locks::worked;
 use engine::Stop;
 use indexes::Tables;
 use model::{OutOfMemory, TableId};
@@ -145,6 +146,12 @@ enum Scenario {
     Truncate,
     Meet,
     Clash,
+    RemoveBehindASet,
+    LookUp,
+    CommitBeside,
+    KeepAValue,
+    WaitForEachOther,
+    EmptyATable,
 }
 
 // How many commits it leaves, and how many rows of each table.
@@ -154,6 +161,10 @@ fn left_by(which: Scenario) -> (usize, usize, usize) {
         Scenario::Truncate => (2, 1, 2),
         Scenario::Meet => (0, 0, 0),
         Scenario::Clash => (1, 1, 0),
+        Scenario::RemoveBehindASet => (3, 1, 0),
+        Scenario::LookUp => (3, 3, 0),
+        Scenario::CommitBeside => (2, 3, 0),
+        Scenario::KeepAValue | Scenario::WaitForEachOther | Scenario::EmptyATable => (1, 2, 0),
     }
 }
 
@@ -179,6 +190,12 @@ fn play_named<N: StoreNames, R: Abort + Wait>(
         Scenario::Truncate => truncate(stage),
         Scenario::Meet => meet(stage),
         Scenario::Clash => clash(stage),
+        Scenario::RemoveBehindASet => worked::remove_behind_a_set(stage),
+        Scenario::LookUp => worked::look_up(stage),
+        Scenario::CommitBeside => worked::commit_beside(stage),
+        Scenario::KeepAValue => worked::keep_a_value(stage),
+        Scenario::WaitForEachOther => worked::wait_for_each_other(stage),
+        Scenario::EmptyATable => worked::empty_a_table(stage),
     };
     let (tables, entries) = store.close(rt, line);
     let left = (
@@ -213,4 +230,21 @@ fn who_has_all_tickets_learns_what_the_store_is(rt: HostRuntime) -> Result<(), F
 #[test]
 fn a_clash_stops_the_store(rt: HostRuntime) -> Result<(), Fail> {
     play(&rt, rt.alloc(), Scenario::Clash)
+}
+
+static WORKED: [Scenario; 6] = [
+    Scenario::RemoveBehindASet,
+    Scenario::LookUp,
+    Scenario::CommitBeside,
+    Scenario::KeepAValue,
+    Scenario::WaitForEachOther,
+    Scenario::EmptyATable,
+];
+
+#[test]
+fn worked_calls_have_their_answers(rt: HostRuntime) -> Result<(), Fail> {
+    for which in &WORKED {
+        play(&rt, rt.alloc(), *which)?;
+    }
+    Ok(())
 }

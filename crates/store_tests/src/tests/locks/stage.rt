@@ -7,8 +7,8 @@ ghost use Rattle.world_parts.specs.ByTable.{IsIn};
 ghost use Rattle.table_locks.specs.Truncating.{IsTruncate};
 ghost use Rattle.store_tests.specs.Waits.{Rests, WaitsIn};
 
-use crate::tests::locks::table::{BOTH, id_of};
-use engine::{Acted, EngineFault, Stop};
+use crate::tests::locks::table::{BOTH, id_of, key};
+use engine::{Acted, EngineFault, NotSettled, Stop};
 use model::{Change, CommitInfo, Lsn, OutOfMemory, Row, TableId, Xid};
 use parted_store::{Line, Seen};
 use std::alloc::Global;
@@ -86,6 +86,23 @@ impl<'a, N: StoreNames, R: Abort + Wait> Stage<'a, N, R> {
         {
             Ok(Acted::Done) => {}
             other => panic!(self.rt; "not done: {other:?}"),
+        }
+    }
+
+    /// A change of one table finds no row.
+    pub(super) fn skips(&self, ticket: &mut Ticket<N>, sub: Xid, table: TableId, change: &Change)
+        requires known { table < 2 }
+        requires names { NamesTables 2 change.now }
+        requires its { IsIn table change.now }
+        requires waits { WaitsIn table ticket.old.events }
+        ensures { Rests ticket.new.events }
+    {
+        match self
+            .store
+            .act_in_table(self.rt, self.alloc, ticket, table, sub, change)
+        {
+            Ok(Acted::Skipped) => {}
+            other => panic!(self.rt; "not skipped: {other:?}"),
         }
     }
 
@@ -181,6 +198,23 @@ impl<'a, N: StoreNames, R: Abort + Wait> Stage<'a, N, R> {
 
     pub(super) fn aborts(&mut self, ticket: Ticket<N>) {
         self.store.abort(self.rt, &mut self.line, ticket);
+    }
+
+    /// Stops the store where nothing goes on, by the items that were sent to each.
+    pub(super) fn stops_held(&self, waiter: Xid, sent: &[(Xid, u64)]) -> Result<Xid, NotSettled> {
+        self.store.stop_held(self.rt, &self.line, waiter, sent)
+    }
+
+    /// Whether a row is live at an id.
+    pub(super) fn is_live(&self, table: TableId, id: i64) -> bool
+        requires { table < 2 }
+    {
+        let key = self.got(key(self.alloc, id));
+        let part = self.store.lock_table(self.rt, table);
+        match part.live(self.rt, &key) {
+            Ok(row) => row.is_some(),
+            Err(_) => panic!(self.rt; "no memory"),
+        }
     }
 
     /// What stopped the store, as whoever has all tickets learns it.

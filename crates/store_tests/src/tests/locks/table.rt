@@ -1,4 +1,5 @@
-// The tables of these tests: two of an int, which is the primary key, and another.
+// The tables of these tests: two of an int, which is the primary key, a text, which is a unique key, and a
+// text.
 ghost use Rattle.std.specs.Prelude.{◌≡◌, ◌<◌, [], IfOk, length};
 ghost use Rattle.std.specs.FinMap as finite;
 ghost use Rattle.model.specs.Named.{NamesTables};
@@ -9,7 +10,8 @@ ghost use Rattle.store_tests.specs.Names.{HasNames};
 use bytes::ByteStr;
 use indexes::Tables;
 use model::{
-    Change, Key, KeyColumns, OutOfMemory, Row, TableDef, TableId, TableIds, Value, ValueRef,
+    Change, ColumnPatch, KeptText, Key, KeyColumns, OutOfMemory, Patch, Row, TableDef, TableId,
+    TableIds, Value, ValueRef,
 };
 use parted_store::Line;
 use std::alloc::Global;
@@ -28,7 +30,7 @@ fn definition(alloc: Global) -> Result<TableDef, OutOfMemory> {
         Vec::new(alloc),
         Vec::new(alloc),
         KeyColumns::from_numbers(vec![in alloc; 0]?),
-        Vec::new(alloc),
+        vec![in alloc; KeyColumns::from_numbers(vec![in alloc; 1]?)]?,
     ))
 }
 
@@ -57,16 +59,54 @@ pub(super) fn key(alloc: Global, id: i64) -> Result<Key, OutOfMemory> {
     Key::from_value(alloc, Value::Int(id))
 }
 
-/// A row comes.
+/// A row of this id comes.
 pub(super) fn put(alloc: Global, table: TableId, id: i64) -> Result<Change, OutOfMemory>
     requires { table < 2 }
     ensures names { IfOk result (NamesTables 2) }
     ensures its { IfOk result (IsIn table) }
 {
-    let values = vec![in alloc; Some(Value::Int(id)), Some(Value::Int(0))]?;
+    let values = vec![in alloc; Some(Value::Int(id)), None, None]?;
     Ok(Change::Put {
         table,
         row: Row::from_values(values)?,
+    })
+}
+
+/// A row of the first table comes, of this id and email.
+pub(super) fn put_first(alloc: Global, id: i64, email: &str) -> Result<Change, OutOfMemory>
+    ensures names { IfOk result (NamesTables 2) }
+    ensures its { IfOk result (IsIn 0) }
+{
+    let email = Value::Text(KeptText::from_str(alloc, email)?);
+    let values = vec![in alloc; Some(Value::Int(id)), Some(email), None]?;
+    Ok(Change::Put {
+        table: FIRST,
+        row: Row::from_values(values)?,
+    })
+}
+
+/// The row of the first table at this id has another note.
+pub(super) fn set_first(alloc: Global, id: i64) -> Result<Change, OutOfMemory>
+    ensures names { IfOk result (NamesTables 2) }
+    ensures its { IfOk result (IsIn 0) }
+{
+    let note = ColumnPatch::Value(Value::Text(KeptText::from_str(alloc, "v")?));
+    let columns = vec![in alloc; ColumnPatch::Keep, ColumnPatch::Keep, note]?;
+    Ok(Change::Set {
+        table: FIRST,
+        key: key(alloc, id)?,
+        patch: Patch::from_columns(columns)?,
+    })
+}
+
+/// All rows of the first table go.
+pub(super) fn wipe_first(alloc: Global) -> Result<Change, OutOfMemory>
+    ensures names { IfOk result (NamesTables 2) }
+    ensures its { IfOk result (IsIn 0) }
+{
+    let ids = vec![in alloc; FIRST]?;
+    Ok(Change::Wipe {
+        tables: TableIds::from_ids(ids),
     })
 }
 

@@ -216,13 +216,6 @@ impl Scene {
         self.store.back_to(ticket, sub);
     }
 
-    pub(super) fn wants(&mut self, rt: &impl Abort, xid: Xid) -> bool {
-        let Some(ticket) = self.tickets.get_mut(&xid) else {
-            panic!(rt; "{xid} is not open")
-        };
-        self.store.wants(ticket)
-    }
-
     /// A commit, at the place that its number gives.
     pub(super) fn commit(&mut self, rt: &impl Abort, xid: Xid) {
         let info = commit_info(self.store.journal().len());

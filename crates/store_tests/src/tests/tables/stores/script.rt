@@ -25,14 +25,10 @@ pub(super) enum Step {
     Clashes(Xid, Xid, Call, Clash),
     /// Its change is refused, since the store is stopped.
     DoesNot(Xid, Xid, Call),
-    /// It sets a savepoint.
-    Touches(Xid, Xid),
     /// It sets none, since the store is stopped.
     TouchesNot(Xid, Xid),
     /// It goes back to a savepoint.
     GoesBack(Xid, Xid),
-    /// Its ticket tells whether it waits or clashed.
-    Wants(Xid, bool),
     /// It commits, and then these accounts are committed.
     Commits(Xid, &'static str),
     Aborts(Xid),
@@ -40,27 +36,25 @@ pub(super) enum Step {
 
 impl Step {
     /// What is called, and what that has to answer.
-    fn call(&self) -> Option<(Deed, Result<Acted, EngineFault>)> {
+    fn call(&self) -> (Deed, Result<Acted, EngineFault>) {
         let done = Ok(Acted::Done);
         let stopped = Err(EngineFault::Stopped);
         match *self {
-            Step::Opens(xid) => Some((Deed::Open(xid), done)),
-            Step::OpensNot(xid, fault) => Some((Deed::Open(xid), Err(fault))),
-            Step::Does(xid, sub, call) => Some((Deed::Act(xid, sub, call), done)),
-            Step::Skips(xid, sub, call) => Some((Deed::Act(xid, sub, call), Ok(Acted::Skipped))),
+            Step::Opens(xid) => (Deed::Open(xid), done),
+            Step::OpensNot(xid, fault) => (Deed::Open(xid), Err(fault)),
+            Step::Does(xid, sub, call) => (Deed::Act(xid, sub, call), done),
+            Step::Skips(xid, sub, call) => (Deed::Act(xid, sub, call), Ok(Acted::Skipped)),
             Step::Waits(xid, sub, call, holder) => {
-                Some((Deed::Act(xid, sub, call), Ok(Acted::Held(holder))))
+                (Deed::Act(xid, sub, call), Ok(Acted::Held(holder)))
             }
             Step::Clashes(xid, sub, call, clash) => {
-                Some((Deed::Act(xid, sub, call), Err(EngineFault::Clash(clash))))
+                (Deed::Act(xid, sub, call), Err(EngineFault::Clash(clash)))
             }
-            Step::DoesNot(xid, sub, call) => Some((Deed::Act(xid, sub, call), stopped)),
-            Step::Touches(xid, sub) => Some((Deed::Touch(xid, sub), done)),
-            Step::TouchesNot(xid, sub) => Some((Deed::Touch(xid, sub), stopped)),
-            Step::GoesBack(xid, sub) => Some((Deed::BackTo(xid, sub), done)),
-            Step::Commits(xid, _) => Some((Deed::Commit(xid), done)),
-            Step::Aborts(xid) => Some((Deed::Abort(xid), done)),
-            Step::Wants(..) => None,
+            Step::DoesNot(xid, sub, call) => (Deed::Act(xid, sub, call), stopped),
+            Step::TouchesNot(xid, sub) => (Deed::Touch(xid, sub), stopped),
+            Step::GoesBack(xid, sub) => (Deed::BackTo(xid, sub), done),
+            Step::Commits(xid, _) => (Deed::Commit(xid), done),
+            Step::Aborts(xid) => (Deed::Abort(xid), done),
         }
     }
 }
@@ -102,17 +96,9 @@ impl Shown {
 
 /// Makes a step's call, which answers as it says.
 fn take(rt: &impl Abort, alloc: Global, scene: &mut Scene, step: &Step) {
-    if let Some((deed, wanted)) = step.call() {
-        let answer = scene.make(rt, alloc, &deed);
-        assert_same(rt, answer, wanted, step);
-    }
-}
-
-fn ask(rt: &impl Abort, scene: &mut Scene, step: &Step) {
-    if let Step::Wants(xid, wanted) = step {
-        let wants = scene.wants(rt, *xid);
-        assert_same(rt, wants, *wanted, step);
-    }
+    let (deed, wanted) = step.call();
+    let answer = scene.make(rt, alloc, &deed);
+    assert_same(rt, answer, wanted, step);
 }
 
 /// The committed accounts, the journal and what stopped the store.
@@ -148,7 +134,6 @@ pub(super) fn play_on(
     };
     for step in steps {
         take(rt, alloc, scene, step);
-        ask(rt, scene, step);
         shown.follow(step);
         look(rt, alloc, scene, &shown, step)?;
     }
