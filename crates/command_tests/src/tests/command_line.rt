@@ -55,7 +55,8 @@ static SKIPS: [(&str, Option<u64>); 16] = [
     ("0/+1", None),
 ];
 
-fn owned(alloc: Global, given: &[&str]) -> Result<Vec<String>, Fail> {
+/// The words of a command line.
+pub(super) fn owned(alloc: Global, given: &[&str]) -> Result<Vec<String>, Fail> {
     let mut words = Vec::new(alloc);
     for word in given {
         words.push(String::from_str(alloc, *word)?)?;

@@ -1,5 +1,6 @@
 // What a command line of `mirror` asks for: the limits of its numbers, what stands where none was given, and
 // faults of usage.
+use crate::tests::command_line::owned;
 use leader::Config;
 use mirror_command::options;
 use mirror_command::options::{Options, Publishing};
@@ -8,14 +9,6 @@ use pgapply_command::options::Input;
 use std::alloc::Global;
 use std::test::Fail;
 use testing::asserts::{assert_holds, assert_same};
-
-fn owned(alloc: Global, given: &[&str]) -> Result<Vec<String>, Fail> {
-    let mut words = Vec::new(alloc);
-    for word in given {
-        words.push(String::from_str(alloc, *word)?)?;
-    }
-    Ok(words)
-}
 
 /// An option, its text, and the number that is read, or none where the text is refused.
 static NUMBERS: [(&str, &str, Option<u64>); 20] = [
